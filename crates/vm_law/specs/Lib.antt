@@ -1,0 +1,4 @@
+pub mod BitSet
+pub mod CpuSet
+pub mod Memory
+pub mod Seq

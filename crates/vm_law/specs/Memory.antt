@@ -1,0 +1,18 @@
+-- Guest memory, a byte list whose first part is code.
+use Rattle.std.specs.Prelude.{ℕ, ◌+◌, List, length, take, drop, ◌++◌}
+
+pub record Memory : Type 0 where
+  pub bytes : List ℕ
+  pub code : ℕ
+
+-- the code part
+abbrev pub code_of : Memory → List ℕ
+code_of m = take m.code m.bytes
+
+-- n bytes from an address on
+abbrev pub read_of : Memory → ℕ → ℕ → List ℕ
+read_of m at n = take n (drop at m.bytes)
+
+-- the memory after a piece was written from an address on
+abbrev pub written : Memory → ℕ → List ℕ → Memory
+written m at piece = record m { bytes = take at m.bytes ++ piece ++ drop (at + length piece) m.bytes }

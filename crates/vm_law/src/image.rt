@@ -1,0 +1,10 @@
+use crate::seq::Seq;
+
+/// A flat image: `payload` is loaded at address 0, of which the first `code` bytes are read-only code,
+/// and vCPU 0 starts at `entry`.
+#[derive(Debug, Drop)]
+pub struct FlatImage {
+    pub entry: u64,
+    pub code: u64,
+    pub payload: Seq<u8>,
+}

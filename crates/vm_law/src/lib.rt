@@ -1,0 +1,34 @@
+//! The shared types and definitions of vmrun.
+#![tactic(auto)]
+
+mod block;
+mod bytes;
+mod chips;
+mod context;
+mod cpu_set;
+mod image;
+mod insn;
+mod journal;
+mod memory;
+mod message;
+mod plan;
+mod script;
+mod seq;
+mod stage;
+mod text;
+
+pub use block::{ChainList, Descriptor, Kind, Request, Segment};
+pub use bytes::Bytes;
+pub use chips::{IoapicState, LapicState, UartState, WindowState};
+pub use context::{Ctx, Stop};
+pub use cpu_set::CpuSet;
+pub use image::FlatImage;
+pub use insn::{Count, Insn, Loc, Mem, Op, Src, Width};
+pub use journal::{EndCause, Entry, Journal, Logged, Signed};
+pub use memory::OutOfMemory;
+pub use message::{Dest, Message, Mode};
+pub use plan::{DiskPlan, Plan};
+pub use script::{Order, Script};
+pub use seq::Seq;
+pub use stage::{MeetKind, Owned};
+pub use text::Text;
