@@ -44,9 +44,12 @@ no_calls failing = record { next = 0; failing = failing; faults = 0 }
 abbrev pub one_more : ℕ → ℕ
 one_more n = max n (min (n + 1) (2 ^ 64 - 1))
 
--- the next call is to fail
+-- whether the next call is to fail
+abbrev pub is_listed : CallState → Bool
+is_listed calls = list_any (λ n. n == calls.next) calls.failing
+
 abbrev pub IsListed : CallState → Type 0
-IsListed calls = IsTrue (list_any (λ n. n == calls.next) calls.failing)
+IsListed calls = IsTrue (is_listed calls)
 
 -- after a call that failed, or that didn't
 abbrev pub after_call : Bool → CallState → CallState
@@ -59,6 +62,10 @@ FailsWhereListed old new result = IsListed old.calls → (result ≡ Err Failed)
 -- no other call of it answers that it failed
 abbrev pub FailsOnlyListed : {T : Type 0} → HostState → Result T HostFault → Type 0
 FailsOnlyListed old result = IsErrOf result Failed → IsListed old.calls
+
+-- each call of it takes one number
+abbrev pub IsNumbered : HostState → HostState → Type 0
+IsNumbered old new = new.calls ≡ after_call (is_listed old.calls) old.calls
 
 -- the calls that are to fail of the image of a file that is opened next
 abbrev pub calls_of : List ImageCall → List ℕ → List ℕ

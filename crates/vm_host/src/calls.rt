@@ -1,7 +1,6 @@
 //! Calls that are numbered from 0, some of which are to fail.
-ghost use Rattle.std.specs.Prelude.{◌≡◌, ◌==◌, ◌<◌, ◌↔◌, IsTrue, [], ◌∷◌, ◌++◌, OnOk, OnErr};
-ghost use Rattle.std.specs.List.{list_any};
-ghost use Rattle.vm_host.specs.MemState.{no_calls, after_call, one_more};
+ghost use Rattle.std.specs.Prelude.{◌≡◌, ◌<◌, ◌↔◌, IsTrue, [], ◌∷◌, ◌++◌, OnOk, OnErr};
+ghost use Rattle.vm_host.specs.MemState.{no_calls, is_listed, after_call, one_more};
 
 use std::alloc::Global;
 use std::marker::Model;
@@ -9,7 +8,7 @@ use vm_law::OutOfMemory;
 
 /// The number of the next call, the calls that are to fail, and how many failed.
 #[derive(Drop)]
-pub(crate) struct Calls {
+pub struct Calls {
     next: u64,
     failing: Vec<u64>,
     faults: u64,
@@ -25,14 +24,14 @@ impl Model for Calls {
 
 impl Calls {
     /// Before the first call; none is to fail.
-    pub(crate) fn new(alloc: Global) -> Calls
+    pub fn new(alloc: Global) -> Calls
         ensures { result ≡ no_calls [] }
     {
         Calls::failing_at(Vec::new(alloc))
     }
 
     /// Before the first call; those of these numbers are to fail.
-    pub(crate) fn failing_at(failing: Vec<u64>) -> Calls
+    pub fn failing_at(failing: Vec<u64>) -> Calls
         ensures { result ≡ no_calls failing.items }
     {
         Calls {
@@ -43,7 +42,7 @@ impl Calls {
     }
 
     /// Lists a call that is to fail.
-    pub(crate) fn fail(&mut self, call: u64) -> Result<(), OutOfMemory>
+    pub fn fail(&mut self, call: u64) -> Result<(), OutOfMemory>
         ensures listed { OnOk result (self.new ≡ record self.old { failing = self.old.failing ++ call ∷ [] }) }
         ensures err { OnErr result (self.new ≡ self.old) }
     {
@@ -52,8 +51,8 @@ impl Calls {
     }
 
     /// Takes the number of a call, and counts a fault where it is listed. Whether it is.
-    pub(crate) fn next_fails(&mut self) -> bool
-        ensures listed { result ≡ list_any (λ n. n == self.old.next) self.old.failing }
+    pub fn next_fails(&mut self) -> bool
+        ensures listed { result ≡ is_listed self.old }
         ensures after { self.new ≡ after_call result self.old }
     {
         let call = self.next;
@@ -66,14 +65,14 @@ impl Calls {
     }
 
     /// Counts a fault of the call whose number was taken last.
-    pub(crate) fn count_fault(&mut self)
+    pub fn count_fault(&mut self)
         ensures { self.new ≡ record self.old { faults = one_more self.old.faults } }
     {
         self.faults = self.faults.saturating_add(1);
     }
 
     /// Whether a call has failed.
-    pub(crate) fn has_failed(&self) -> bool
+    pub fn has_failed(&self) -> bool
         ensures { IsTrue result ↔ (0 < self.now.faults) }
     {
         self.faults > 0

@@ -1,13 +1,12 @@
 //! Files in memory. Each change is kept, the newest first, with what its file reads as after it.
-ghost use Rattle.std.specs.Prelude.{◌≡◌, ◌<◌, ◌≤◌, ◌==◌, ℕ, [], ◌∷◌, ◌++◌, List, length, true, false, Option, Some, None, Result, Ok, Err, OnOk, OnErr, IfOk, IsSome, IsSomeAnd, IfSome, option_map, MatchOption, slice_index_or, slice_set, if◌then◌else◌, IsErrOf};
-ghost use Rattle.std.specs.List.{list_any};
+ghost use Rattle.std.specs.Prelude.{◌≡◌, ◌<◌, ◌≤◌, ℕ, [], ◌∷◌, ◌++◌, List, length, true, false, Option, Some, None, Result, Ok, Err, OnOk, OnErr, IfOk, IsOk, IsSome, IsSomeAnd, IfSome, option_map, MatchOption, slice_index_or, slice_set, if◌then◌else◌, IsErrOf};
 ghost use Rattle.vm_host.specs.Told.{WhereTold};
 ghost use Rattle.vm_host.specs.Counts.{HasCause, RoseExactly};
 ghost use Rattle.vm_host.specs.Files.{LeavesOthers, ReadsFrom, Written};
 ghost use Rattle.vm_host.specs.Crash.{ReadsNow, AddsNothing, AddsTorn, Passes, Makes, Only};
 ghost use Rattle.vm_host.specs.Past.{Change, file_of, Reads, LeftSince, made_at, given_back};
 ghost use Rattle.vm_host.specs.Kinds.{lent_of};
-ghost use Rattle.vm_host.specs.MemState.{IsListed, FailsWhereListed, FailsOnlyListed, after_call, no_calls, one_more, calls_of, calls_of_others};
+ghost use Rattle.vm_host.specs.MemState.{IsListed, is_listed, IsNumbered, FailsWhereListed, FailsOnlyListed, after_call, no_calls, one_more, calls_of, calls_of_others};
 
 use crate::calls::Calls;
 use crate::event::{Event, Kind};
@@ -23,7 +22,6 @@ use vm_law::OutOfMemory;
 ///
 /// Its calls of [`Host`] that answer a `Result` are numbered from 0. One that is listed answers
 /// `Failed` whatever else it would answer and changes no file; no other call answers that.
-/// `write_at` puts zeros between an old end and a later offset.
 #[derive(Drop)]
 pub struct MemHost {
     alloc: Global,
@@ -113,7 +111,7 @@ impl MemHost {
     /// Takes the number of a call, and counts a fault where it is listed.
     #[tactic(auto, using(crate::proofs::Pasts::reads_now))]
     fn call_fails(&mut self) -> bool
-        ensures listed { result ≡ list_any (λ n. n == self.old.calls.next) self.old.calls.failing }
+        ensures listed { result ≡ is_listed self.old.calls }
         ensures after { self.new ≡ record self.old { calls = after_call result self.old.calls } }
         ensures reads { ReadsNow (length self.new.past) (LeftSince self.new.past) (file_of self.new.past) }
     {
@@ -206,6 +204,8 @@ impl Host for MemHost {
     fn length(&mut self, name: &str) -> Result<u64, HostFault>
         ensures listed { FailsWhereListed self.old self.new result }
         ensures unlisted { FailsOnlyListed self.old result }
+        ensures numbered { IsNumbered self.old self.new }
+        ensures other_calls { self.new.failing_images ≡ self.old.failing_images }
         ensures answer { (IsListed self.old.calls → ⊥) → MatchOption (file_of self.old.past name.now)
             (result ≡ Err HostFault.Missing) (λ f. result ≡ Ok (length f)) }
         ensures told { true ≡ true }
@@ -233,8 +233,10 @@ impl Host for MemHost {
     fn read_at(&mut self, name: &str, at: u64, into: &mut [u8]) -> Result<usize, HostFault>
         ensures listed { FailsWhereListed self.old self.new result }
         ensures unlisted { FailsOnlyListed self.old result }
+        ensures numbered { IsNumbered self.old self.new }
+        ensures other_calls { self.new.failing_images ≡ self.old.failing_images }
         ensures answer { (IsListed self.old.calls → ⊥) → MatchOption (file_of self.old.past name.now)
-            (result ≡ Err HostFault.Missing) (λ f. OnOk result (Unit {0})) }
+            (result ≡ Err HostFault.Missing) (λ f. IsOk result) }
         ensures within { IfOk result (λ n. n ≤ length into.old) }
         ensures told { true ≡ true }
         ensures value { WhereTold true
@@ -261,6 +263,8 @@ impl Host for MemHost {
     fn make(&mut self, _alloc: Global, name: &str) -> Result<(), HostFault>
         ensures listed { FailsWhereListed self.old self.new result }
         ensures unlisted { FailsOnlyListed self.old result }
+        ensures numbered { IsNumbered self.old self.new }
+        ensures other_calls { self.new.failing_images ≡ self.old.failing_images }
         ensures told { true ≡ true }
         ensures empty { WhereTold true (OnOk result (file_of self.new.past name.now ≡ Some [])) }
         ensures others { WhereTold true (LeavesOthers name.now (file_of self.old.past) (file_of self.new.past)) }
@@ -292,6 +296,8 @@ impl Host for MemHost {
         requires { WhereTold true (IsSome (file_of self.old.past name.now)) }
         ensures listed { FailsWhereListed self.old self.new result }
         ensures unlisted { FailsOnlyListed self.old result }
+        ensures numbered { IsNumbered self.old self.new }
+        ensures other_calls { self.new.failing_images ≡ self.old.failing_images }
         ensures told { true ≡ true }
         ensures written { WhereTold true (OnOk result
             (Written (file_of self.old.past name.now) at piece.now (file_of self.new.past name.now))) }
@@ -324,6 +330,8 @@ impl Host for MemHost {
         requires { WhereTold true (IsSome (file_of self.old.past name.now)) }
         ensures listed { FailsWhereListed self.old self.new result }
         ensures unlisted { FailsOnlyListed self.old result }
+        ensures numbered { IsNumbered self.old self.new }
+        ensures other_calls { self.new.failing_images ≡ self.old.failing_images }
         ensures told { true ≡ true }
         ensures files { WhereTold true (file_of self.new.past ≡ file_of self.old.past) }
         ensures cause { HasCause self.old.calls.faults self.new.calls.faults self.old.misses self.new.misses result }
@@ -351,6 +359,7 @@ impl Host for MemHost {
         requires { WhereTold true (IsSome (file_of self.old.past name.now)) }
         ensures listed { FailsWhereListed self.old self.new result }
         ensures unlisted { FailsOnlyListed self.old result }
+        ensures numbered { IsNumbered self.old self.new }
         ensures image_calls { IfOk result (λ i. i.calls ≡ no_calls (calls_of self.old.failing_images name.now)) }
         ensures taken_off { OnOk result (self.new.failing_images ≡ calls_of_others self.old.failing_images name.now) }
         ensures told { true ≡ true }
@@ -382,7 +391,21 @@ impl Host for MemHost {
         Ok(MemImage::new(lent, failing))
     }
 
-    fn close_image(&mut self, name: &str, image: MemImage) {
+    fn close_image(&mut self, name: &str, image: MemImage)
+        requires { WhereTold true (IsSome (file_of self.old.past name.now)) }
+        ensures calls { self.new.calls ≡ self.old.calls }
+        ensures other_calls { self.new.failing_images ≡ self.old.failing_images }
+        ensures told { true ≡ true }
+        ensures content { WhereTold true (WhereTold true (file_of self.new.past name.now ≡ Some image.bytes)) }
+        ensures others { WhereTold true (LeavesOthers name.now (file_of self.old.past) (file_of self.new.past)) }
+        ensures faults { self.new.calls.faults ≡ self.old.calls.faults }
+        ensures misses { self.new.misses ≡ self.old.misses }
+        ensures image_faults { RoseExactly (0 < image.calls.faults) self.old.image_faults self.new.image_faults }
+        ensures time { WhereTold true (Passes name.now (length self.old.past) (length self.new.past)
+            (LeftSince self.old.past) (LeftSince self.new.past)) }
+        ensures reads { WhereTold true (ReadsNow (length self.new.past) (LeftSince self.new.past) (file_of self.new.past)) }
+        ensures made { WhereTold true (made_at self.new.past ≡ made_at self.old.past) }
+    {
         self.count_image(image.has_failed());
         self.give_back(name, image.into_bytes());
     }

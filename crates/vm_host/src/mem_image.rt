@@ -1,10 +1,9 @@
 //! A disk image in memory.
-ghost use Rattle.std.specs.Prelude.{◌≡◌, ◌==◌, ◌*◌, ◌+◌, ◌≤◌, ◌<◌, ◌↔◌, length, true, IsErr, OnOk, OnErr, IsTrue, if◌then◌else◌};
-ghost use Rattle.std.specs.List.{list_any};
+ghost use Rattle.std.specs.Prelude.{◌≡◌, ◌*◌, ◌+◌, ◌≤◌, ◌<◌, ◌↔◌, length, true, IsErr, OnOk, OnErr, IsTrue, if◌then◌else◌};
 ghost use Rattle.vm_host.specs.Told.{WhereTold};
 ghost use Rattle.vm_host.specs.Counts.{Counted, RoseOnOk};
 ghost use Rattle.vm_host.specs.Files.{Holds, SameOutside};
-ghost use Rattle.vm_host.specs.MemState.{IsListed, after_call, no_calls, one_more};
+ghost use Rattle.vm_host.specs.MemState.{IsListed, is_listed, after_call, no_calls, one_more};
 
 use crate::calls::Calls;
 use crate::image::{Image, ImageFault};
@@ -43,7 +42,7 @@ impl MemImage {
 
     /// Takes the number of a call, and counts a fault where it is listed.
     fn call_fails(&mut self) -> bool
-        ensures listed { result ≡ list_any (λ n. n == self.old.calls.next) self.old.calls.failing }
+        ensures listed { result ≡ is_listed self.old.calls }
         ensures after { self.new ≡ record self.old { calls = after_call result self.old.calls } }
     {
         self.calls.next_fails()
@@ -88,6 +87,7 @@ impl Image for MemImage {
         ensures listed { IsListed self.old.calls
             → IsErr result × (self.new ≡ record self.old { calls = after_call true self.old.calls }) }
         ensures unlisted { OnErr result (IsListed self.old.calls) }
+        ensures numbered { self.new.calls ≡ after_call (is_listed self.old.calls) self.old.calls }
         ensures told { true ≡ true }
         ensures written { WhereTold true
             (OnOk result (Holds self.old.bytes (512 * sector) bytes.now self.new.bytes)) }
@@ -106,6 +106,7 @@ impl Image for MemImage {
         ensures listed { IsListed self.old.calls
             → IsErr result × (self.new ≡ record self.old { calls = after_call true self.old.calls }) }
         ensures unlisted { OnErr result (IsListed self.old.calls) }
+        ensures numbered { self.new.calls ≡ after_call (is_listed self.old.calls) self.old.calls }
         ensures told { true ≡ true }
         ensures content { WhereTold true (self.new.bytes ≡ self.old.bytes) }
         ensures cause { Counted self.old.calls.faults self.new.calls.faults result }

@@ -1,9 +1,8 @@
 //! A sink in memory.
-ghost use Rattle.std.specs.Prelude.{◌≡◌, ◌==◌, ◌<◌, ◌≤◌, [], ◌∷◌, ◌++◌, length, take, true, IsErr, OnOk, OnErr, IfOk, MatchResult};
-ghost use Rattle.std.specs.List.{list_any};
+ghost use Rattle.std.specs.Prelude.{◌≡◌, ◌<◌, ◌≤◌, [], ◌∷◌, ◌++◌, length, take, true, IsErr, OnOk, OnErr, IfOk, MatchResult};
 ghost use Rattle.vm_host.specs.Told.{WhereTold};
 ghost use Rattle.vm_host.specs.Counts.{Counted};
-ghost use Rattle.vm_host.specs.MemState.{IsListed, after_call, no_calls};
+ghost use Rattle.vm_host.specs.MemState.{IsListed, is_listed, after_call, no_calls, one_more};
 
 use crate::calls::Calls;
 use crate::sink::{Sink, SinkFault};
@@ -52,7 +51,7 @@ impl MemSink {
 
     /// Takes the number of a call, and counts a fault where it is listed.
     fn call_fails(&mut self) -> bool
-        ensures listed { result ≡ list_any (λ n. n == self.old.calls.next) self.old.calls.failing }
+        ensures listed { result ≡ is_listed self.old.calls }
         ensures after { self.new ≡ record self.old { calls = after_call result self.old.calls } }
     {
         self.calls.next_fails()
@@ -76,6 +75,10 @@ impl Sink for MemSink {
     fn write(&mut self, piece: &[u8]) -> Result<usize, SinkFault>
         ensures listed { IsListed self.old.calls
             → IsErr result × (self.new ≡ record self.old { calls = after_call true self.old.calls }) }
+        ensures numbered { self.new.calls ≡ record self.old.calls {
+          next = one_more self.old.calls.next;
+          faults = self.new.calls.faults;
+        } }
         ensures whole { IfOk result (λ n. n ≡ length piece.now) }
         ensures within { IfOk result (λ n. n ≤ length piece.now) }
         ensures some { 0 < length piece.now → IfOk result (λ n. 0 < n) }

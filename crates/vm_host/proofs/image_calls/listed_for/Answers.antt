@@ -24,13 +24,13 @@ loop-entry-preserved c =
     let was = c.loop-entry.invariant in
     let named = ap (λ (x : ImageCall). x.call) c.entry.view_is in
     elim c.if-is_of.branch [
-      then-is_of+in_ok-push w ↦
-        let pushed = ap (λ (v : Vec ℕ Global). v.items) w.calls-is ∙ w.in_ok-push.ensures.items in
-        let test = one e c.args.name.now true (sym c.is_of.ensures ∙ w.if-is_of.true) in
-        cc
-    | else-is_of w ↦
-        let kept = ap (λ (v : Vec ℕ Global). v.items) w.calls-is in
-        let test = one e c.args.name.now false (sym c.is_of.ensures ∙ w.if-is_of.false) in
-        let same = append-nil c.loop-entry.calls.items in
-        cc
+      | then-is_of+in_ok-push w ↦
+          let pushed = ap (λ (v : Vec ℕ Global). v.items) w.calls-is ∙ w.in_ok-push.ensures.items in
+          let test = one e c.args.name.now true (sym c.is_of.ensures ∙ w.if-is_of.true) in
+          cc
+      | else-is_of w ↦
+          let kept = ap (λ (v : Vec ℕ Global). v.items) w.calls-is in
+          let test = one e c.args.name.now false (sym c.is_of.ensures ∙ w.if-is_of.false) in
+          let same = append-nil c.loop-entry.calls.items in
+          cc
     ]
