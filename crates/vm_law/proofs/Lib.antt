@@ -1,2 +1,4 @@
 pub mod BitSets
+pub mod Finding
 pub mod Numbers
+pub mod Opcodes
