@@ -13,6 +13,8 @@ mod index;
 mod meaning;
 mod parts;
 mod reading;
+#[cfg(test)]
+mod tests;
 
 pub use decoder::{decode, one_spelling};
 pub use fault::DecodeFault;
