@@ -11,6 +11,7 @@ mod decoder;
 mod fault;
 mod index;
 mod meaning;
+mod operand;
 mod parts;
 mod reading;
 #[cfg(test)]
