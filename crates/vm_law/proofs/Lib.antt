@@ -1,2 +1,4 @@
 pub mod BitSets
+pub mod Counted
 pub mod Numbers
+pub mod Readers

@@ -2,4 +2,5 @@ pub mod BitSet
 pub mod CpuSet
 pub mod Image
 pub mod Memory
+pub mod Reader
 pub mod Seq

@@ -12,6 +12,7 @@ mod journal;
 mod memory;
 mod message;
 mod plan;
+pub mod reading;
 mod script;
 mod seq;
 mod stage;
@@ -32,3 +33,6 @@ pub use script::{Order, Script};
 pub use seq::Seq;
 pub use stage::{MeetKind, Owned};
 pub use text::Text;
+
+#[cfg(test)]
+mod tests;
