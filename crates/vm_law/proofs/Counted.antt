@@ -1,11 +1,11 @@
 -- The laws of readers of lists, and of readers that refuse a value.
-use Rattle.std.proofs.Common.{◌≡◌, ℕ, zero, suc, ◌+◌, ◌^◌, ◌<◌, ◌≤◌, Bool, true, false, cond, ltb, List, [], ◌∷◌, ◌++◌, length, get_or, take, drop, Result, Ok, Err, refl, sym, ap, subst, ◌∙◌, append_assoc, arith}
+use Rattle.std.proofs.Common.{◌≡◌, ℕ, zero, suc, ◌+◌, ◌^◌, ◌<◌, ◌≤◌, Bool, true, false, cond, ltb, List, [], ◌∷◌, ◌++◌, length, take, drop, Ok, refl, sym, ap, subst, ◌∙◌, append_assoc, arith}
 use Rattle.std.specs.List.{flat_map, AllByRecursion}
 use Rattle.std.proofs.lemmas.Bool.{ltb-false, le-ltb}
 use Rattle.std.proofs.lemmas.List.{take_at, drop_at, take-append-drop, length-append, length-take, get_or-drop}
 use Rattle.std.proofs.lemmas.List.Concat.{flat_map-cons}
 use Rattle.byteorder.specs.Endian.{little_bytes}
-use Rattle.vm_law.specs.Reader.{Read, Reader, fault_at, then_read, ◌>>=◌, pure, number, guarded, some_bytes, times, counted}
+use Rattle.vm_law.specs.Reader.{Reader, fault_at, ◌>>=◌, pure, number, guarded, some_bytes, times, counted}
 use Rattle.vm_law.proofs.Numbers.{IsBytes}
 use Rattle.vm_law.proofs.Readers.{Takes, Takes-then, Reads, done_is, then_ok, number_reads}
 

@@ -1,10 +1,9 @@
 ghost use Rattle.std.specs.Prelude.{◌≡◌, ◌-◌, length, take, drop};
 ghost use Rattle.vm_law.specs.Reader.{Gives, number, some_bytes};
 
+use crate::memory::OutOfMemory;
 use byteorder::{ByteOrder, LittleEndian};
 use std::alloc::{AllocError, AllocFailed};
-
-use crate::memory::OutOfMemory;
 
 /// Why bytes were refused, and how many of them were left at the place of the fault.
 #[derive(Clone, Copy, Debug, PartialEq, Eq)]
