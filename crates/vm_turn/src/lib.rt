@@ -30,3 +30,5 @@ pub use pass::{Busy, Held, Pass};
 pub use turnstile::Turnstile;
 pub use view::{Ended, View};
 
+#[cfg(test)]
+mod tests;
