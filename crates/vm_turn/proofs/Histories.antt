@@ -1,5 +1,5 @@
 -- The entries of one number, and prefixes.
-use Rattle.std.proofs.Common.{◌≡◌, ◌≢◌, ℕ, ◌+◌, ◌≤◌, Bool, true, false, cond, List, [], ◌∷◌, ◌++◌, length, sym, refl, ap, ◌∙◌, arith, ne_eqb, eqb, length-append, drop, append-nil, append_assoc, nat_lt, ltb-true}
+use Rattle.std.proofs.Common.{◌≡◌, ◌≢◌, ℕ, ◌≤◌, Bool, true, false, cond, List, [], ◌∷◌, ◌++◌, length, sym, refl, ap, ◌∙◌, arith, ne_eqb, eqb, length-append, drop, append-nil, append_assoc, nat_lt, ltb-true}
 use Rattle.std.proofs.lemmas.List.Elements.{filter-append, All-head, All-tail}
 use Rattle.vm_law.specs.declared.journal.Signed.{Signed}
 use Rattle.vm_turn.specs.History.{signed_by, AllBy, StartsWith, longer}

@@ -87,7 +87,8 @@ impl<L: Logged> Turnstile<L> {
         requires idle { pass.old.view.holds ≡ false }
         ensures same { pass.new.turnstile ≡ pass.old.turnstile }
         ensures finds { Finds L.root L.entries pass.old.view result.value }
-        // It may have taken any number of tries.
+        // It may have taken any number of tries from one on.
+        ensures tried { pass.old.view.tries < pass.new.view.tries }
         ensures taken { pass.new.view ≡ with_tries (taken_view pass.old.view (L.entries result.value)) pass.new.view.tries }
     {
         for _ in rt.forever() {

@@ -1,4 +1,4 @@
-use Rattle.std.proofs.Common.{◌≡◌}
+use Rattle.std.proofs.Common.{◌≡◌, ◌≤◌}
 use Rattle.vm_turn.proofs.turnstile.Turnstile.take.Given as goal
 
 abbrev pub invariant-loop : goal.invariant-loop
@@ -7,4 +7,5 @@ invariant-loop g l = record {
   finite : (goal.iterator-loop g).is_finite l.iterator';
   same : l.pass.turnstile ≡ l.initial.pass.turnstile;
   idle : l.pass.view ≡ record l.initial.pass.view { found = l.pass.view.found; tries = l.pass.view.tries };
+  tried : l.initial.pass.view.tries ≤ l.pass.view.tries;
 }
