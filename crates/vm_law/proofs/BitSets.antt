@@ -1,13 +1,15 @@
 -- A list of tests as the set of the places that pass.
 use Rattle.std.specs.Prelude.{if◌then◌else◌}
-use Rattle.std.proofs.Common.{◌≡◌, ℕ, zero, suc, ◌+◌, ◌<◌, ◌≤◌, Bool, true, false, not, ◌&&◌, ◌||◌, eqb, ltb, List, length, get_or, set, replicate, refl, sym, ap, add-one, arith, inl, inr, ◌∙◌}
-use Rattle.std.proofs.lemmas.Bool.{cases_lt, cases_eq}
+use Rattle.std.proofs.Common.{◌≡◌, ℕ, zero, suc, ◌<◌, ◌≤◌, Bool, true, false, ◌&&◌, ◌||◌, eqb, ltb, List, [], ◌∷◌, length, get_or, set, replicate, refl, sym, ap, arith, inl, inr, ◌∙◌}
+use Rattle.std.proofs.lemmas.Bool.{cases_lt, and_parts}
+use mathlib.Core.Bool.{beq}
+use lib.Pointwise.{pointwise}
 use Rattle.std.proofs.lemmas.Bool.Decides.{nat_tests}
-use Rattle.std.proofs.lemmas.List.{ext_get_or, get_or_past, get_or-set_same, get_or-set_other, get_or-replicate}
+use Rattle.std.proofs.lemmas.List.{ext_get_or, get_or_past, get_or-replicate}
 use Rattle.std.proofs.lemmas.Grind.{common_steps}
 use Rattle.std.specs.Ordering.{nat_cmp}
 use Rattle.std.specs.Cmp.{nat_cmp_total}
-use Rattle.std.specs.FinSet.{contains, insert, remove, empty, same_set, members, nat_cmp-IsAntisymmetric, contains-insert, contains-empty, contains-remove}
+use Rattle.std.specs.FinSet.{contains, insert, remove, empty, same_set, members, nat_cmp-IsAntisymmetric, contains-empty}
 use Rattle.vm_law.specs.BitSet.{Numbers, set_below, set_of}
 
 has_if : (b : Bool) (s : Numbers) (n q : ℕ) → contains (if b then insert s n else s) q ≡ ((eqb q n && b) || contains s q)
@@ -47,3 +49,26 @@ past_the_end bits q le = has_set_of bits q ∙ get_or_past bits q false le
 -- lists of one length that give the same set are the same
 pub same_bits : (xs ys : List Bool) → length xs ≡ length ys → set_of xs ≡ set_of ys → xs ≡ ys
 same_bits xs ys len same = ext_get_or false xs ys len (λ i _. sym (has_set_of xs i) ∙ ap (λ (s : Numbers). contains s i) same ∙ has_set_of ys i)
+
+bools_same : (a b : Bool) → beq a b ≡ true → a ≡ b
+bools_same true true h = refl
+bools_same true false h = absurd cc
+bools_same false true h = absurd cc
+bools_same false false h = refl
+
+bool_itself : (a : Bool) → beq a a ≡ true
+bool_itself true = refl
+bool_itself false = refl
+
+-- what a test of two lists of truths tells
+pub lists_same : (xs ys : List Bool) → pointwise beq xs ys ≡ true → xs ≡ ys
+lists_same [] [] h = refl
+lists_same [] (y ∷ ys) h = absurd cc
+lists_same (x ∷ xs) [] h = absurd cc
+lists_same (x ∷ xs) (y ∷ ys) h =
+    let parts = and_parts (beq x y) (pointwise beq xs ys) h in
+    ap (λ (b : Bool). b ∷ xs) (bools_same x y parts.0) ∙ ap (λ (bs : List Bool). y ∷ bs) (lists_same xs ys parts.1)
+
+pub list_itself : (xs : List Bool) → pointwise beq xs xs ≡ true
+list_itself [] = refl
+list_itself (x ∷ xs) = rw (bool_itself x) (list_itself xs)
