@@ -5,9 +5,11 @@ use Rattle.vm_turn.specs.declared.view.View.{View}
 use Rattle.vm_turn.specs.History.{signed_by}
 use Rattle.vm_turn.specs.View.{own_of, joined_view, Finds}
 
+-- after a join pass 0 has the own entries of the pass that was joined
 pub own_of-joined : {R : Type 0} (n : ℕ) (v w : View R) → w.number ≡ n → own_of n (joined_view v w).ended ≡ w.own
 own_of-joined n v w is = ap (λ (b : Bool). cond b w.own (own_of n v.ended)) (eq-eqb w.number n is)
 
+-- and of each other pass what it had
 pub own_of-other : {R : Type 0} (n : ℕ) (v w : View R) → w.number ≢ n → own_of n (joined_view v w).ended ≡ own_of n v.ended
 own_of-other n v w not = ap (λ (b : Bool). cond b w.own (own_of n v.ended)) (ne_eqb w.number n not)
 

@@ -6,10 +6,12 @@ use Rattle.std.specs.Prelude.{count_by}
 use Rattle.std.proofs.lemmas.List.Recursion.{is_count_by}
 use Rattle.vm_turn.specs.declared.view.View.{View}
 
+-- a sum that counts one more where b is true is 0 only where it is false
 dead_if : (b : Bool) (n : ℕ) → cond b 1 0 + n ≡ 0 → (b ≡ false) × (n ≡ 0)
 dead_if true n e = absurd (omega arith)
 dead_if false n e = (refl, omega arith)
 
+-- the two ways to count one more
 counted : (b : Bool) (n : ℕ) → cond b 1 0 + n ≡ cond b (1 + n) n
 counted true n = refl
 counted false n = omega arith
@@ -45,6 +47,7 @@ module _ {R : Type 0} where
   lives_more [] w live = ap (λ (b : Bool). cond b 1 0 + 0) live
   lives_more (x ∷ xs) w live = let ih = lives_more xs w live in omega arith
 
+  -- where none is live, each is dead
   none_lives : (vs : List (View R)) (i : ℕ) (v : View R) → lives vs ≡ 0 → get_elem? vs i ≡ some v → v.live ≡ false
   none_lives [] i v none at = absurd (some-ne-none v (sym at))
   none_lives (x ∷ xs) zero v none at = ap (λ (u : View R). u.live) (sym (some-injective x v at)) ∙ (dead_if x.live (lives xs) none).0
@@ -57,12 +60,15 @@ module _ {R : Type 0} where
       let sum : 1 + lives xs ≡ 1 = subst (λ (b : Bool). cond b 1 0 + lives xs ≡ 1) here one in
       none_lives xs n v (omega arith) there
 
+  -- a view that stays live, or dead, counts as before
   pub live_count-set : (vs : List (View R)) (i : ℕ) (v w : View R) → get_elem? vs i ≡ some v → w.live ≡ v.live → live_count (set vs i w) ≡ live_count vs
   live_count-set vs i v w at same = sym (lives-is (set vs i w)) ∙ (lives_set vs i v w at same ∙ lives-is vs)
 
+  -- a live view that dies counts no more
   pub live_count-set_dead : (vs : List (View R)) (i : ℕ) (v w : View R) → get_elem? vs i ≡ some v → v.live ≡ true → w.live ≡ false → suc (live_count (set vs i w)) ≡ live_count vs
   live_count-set_dead vs i v w at was now = ap suc (sym (lives-is (set vs i w))) ∙ (lives_less vs i v w at was now ∙ lives-is vs)
 
+  -- a live view more
   pub live_count-append : (vs : List (View R)) (w : View R) → w.live ≡ true → live_count (vs ++ w ∷ []) ≡ suc (live_count vs)
   live_count-append vs w live = sym (lives-is (vs ++ w ∷ [])) ∙ (lives_more vs w live ∙ ap suc (lives-is vs))
 

@@ -4,9 +4,11 @@ use Rattle.std.proofs.lemmas.List.Elements.{filter-append, All-head, All-tail}
 use Rattle.vm_law.specs.declared.journal.Signed.{Signed}
 use Rattle.vm_turn.specs.History.{signed_by, AllBy, StartsWith, longer}
 
+-- the entries of a number in two parts
 pub signed_append : (n : ℕ) (xs ys : List Signed) → signed_by n (xs ++ ys) ≡ signed_by n xs ++ signed_by n ys
 signed_append n xs ys = filter-append (λ (s : Signed). eqb s.by n) xs ys
 
+-- entries of one number are of no other
 pub signed_other : (n m : ℕ) (l : List Signed) → AllBy m l → n ≢ m → signed_by n l ≡ []
 signed_other n m [] all other = refl
 signed_other n m (x ∷ xs) all other =
@@ -23,6 +25,7 @@ nothing_more n xs ys e = empty_end (signed_by n xs) (signed_by n ys) (sym (signe
     empty_end us [] e = refl
     empty_end us (b ∷ bs) e = let h = ap length e in let k = length-append us (b ∷ bs) in absurd (omega arith)
 
+-- a front of what has none of n has none of n
 pub none_before : (n : ℕ) (xs ys : List Signed) → signed_by n (xs ++ ys) ≡ [] → signed_by n xs ≡ []
 none_before n xs ys e = empty_front (signed_by n xs) (signed_by n ys) (sym (signed_append n xs ys) ∙ e)
   where

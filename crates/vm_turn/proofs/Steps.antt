@@ -15,7 +15,7 @@ use Rattle.vm_turn.specs.declared.view.View.{View}
 use Rattle.vm_turn.specs.History.{signed_by, AllBy, Adds}
 use Rattle.vm_turn.specs.View.{own_of, opening_view, spent_view, taken_view, lost_view, given_view, split_view, new_view, joined_view, IsLone, Finds}
 use Rattle.vm_turn.specs.Rule.{LiveFits, PassFits, IsConsistent, TakeTells, GiveTells}
-use Rattle.vm_turn.specs.Slots.{held_slots}
+use Rattle.vm_turn.specs.Seat.{held_slots}
 use Rattle.vm_turn.proofs.Places.{inside, there_is, at_end, same_at}
 use Rattle.vm_turn.proofs.Counts.{live_count, live_count-set, live_count-set_dead, live_count-append, others_dead}
 use Rattle.vm_turn.proofs.Histories.{nothing_more, none_before, grown, longer_begins}
@@ -36,6 +36,7 @@ module _ {L R : Type 0} (root_of : L → R) (entries_of : L → List Signed) whe
   abbrev word_of : St → ℕ
   word_of s = get_or s.words 0 0
 
+  -- the rule holds of a new table about a value with an empty history
   pub begins : (x : L) → entries_of x ≡ [] → Rule (opening (0 ∷ []) (Some x ∷ []) (opening_view (root_of x)))
   begins x empty = let k : V = opening_view (root_of x) in record {
     root = root_of x;
@@ -130,6 +131,7 @@ module _ {L R : Type 0} (root_of : L → R) (entries_of : L → List Signed) whe
       at_least zero not u at live rest = not refl
       at_least (suc n) not u at live rest = true≢false (sym live ∙ rest n u at)
 
+  -- a try at the word 0: the value is there, and the step keeps the rule
   won : (id : ℕ) (m : M) (new : ℕ) → m.0.live ≡ true → m.0.holds ≡ false → new ≡ m.0.number + 1 → (s : St) (k : Rule s) → get_elem? s.views id ≡ some m.0 → word_of s ≡ 0
       → (x : L) × (get_elem? s.homes 0 ≡ some (some (Some x))) × Rule (stepped s 0 new id m.1 (taken_view m.0 (entries_of x)) (takes 0 (Some x))) × Finds root_of entries_of m.0 x
   won id m new live idle up s k at hit =
@@ -176,6 +178,7 @@ module _ {L R : Type 0} (root_of : L → R) (entries_of : L → List Signed) whe
         finds k.root k.log (word_of s) id m.0 x f t.2 e,
       )
 
+  -- a try at any other word: it names another pass, and the step keeps the rule
   lost : (id : ℕ) (m : M) → m.0.live ≡ true → m.0.holds ≡ false → (s : St) (k : Rule s) → get_elem? s.views id ≡ some m.0 → word_of s ≢ 0
       → Rule (stepped s 0 (word_of s) id m.1 (lost_view m.0 (word_of s)) keeps) × (word_of s ≢ m.0.number + 1) × (word_of s ≤ 65536) × ¬ IsLone m.0
   lost id m live idle s k at miss =
@@ -213,6 +216,7 @@ module _ {L R : Type 0} (root_of : L → R) (entries_of : L → List Signed) whe
         λ lone. lone_is_free s k id m.0 p at live idle lone is,
       )
 
+  -- a try, whatever the word is
   pub tries : (slots id : ℕ) (m : M) (new : ℕ) → m.0.live ≡ true → m.0.holds ≡ false → new ≡ m.0.number + 1
       → Allows Rule slots id m 0 (λ n. either (eqb n 0) new n) (TakeTells root_of entries_of (step slots 0 0 new none) m)
   tries slots id m new live idle up s k deep at small =
@@ -290,6 +294,7 @@ module _ {L R : Type 0} (root_of : L → R) (entries_of : L → List Signed) whe
       let bare : rest l ≡ [] = ap (λ (k : List (ℕ × Option L)). rest k) (carries ∙ ap (λ (b : Bool). held_slots b) holds) in
       subst (λ (m : M). Allows Rule slots id m 0 (λ _. 0) (λ _. GiveTells root_of entries_of (step slots 0 0 0 none) m 0)) (sym (e ∙ ap (λ (k : List (ℕ × Option L)). (v, (0, Some x) ∷ k)) bare)) (gives_back slots id v x live holds rooted adds)
 
+  -- a pass is split off pass 0
   pub splits_off : (id : ℕ) (v : V) → v.live ≡ true → v.number ≡ 0 → v.splits < 65535 → Splits Rule id v (split_view v) (new_view v)
   splits_off id v live first more s k at =
       let mine = k.each id v at in
@@ -357,6 +362,7 @@ module _ {L R : Type 0} (root_of : L → R) (entries_of : L → List Signed) whe
             (λ other. (b.0, at_longer (set s.views id left) (right ∷ []) i b.0 (set_else s.views id i left other ∙ b.1), b.2, b.3, b.4));
       }
 
+  -- a pass is joined to pass 0
   pub joins : (id : ℕ) (v : V) (other : ℕ) (w : V) → v.live ≡ true → v.number ≡ 0 → v.holds ≡ false → w.live ≡ true → w.number ≢ 0 → w.holds ≡ false
       → Joins Rule id v other w (joined_view v w) spent_view
   joins id v other w live first idle live' not_first idle' s k at apart there =
@@ -427,6 +433,7 @@ module _ {L R : Type 0} (root_of : L → R) (entries_of : L → List Signed) whe
             (b.0, set_else vs other i spent_view (holder_is_other s k other w i at' idle' z) ∙ (set_else s.views id i both (holder_is_other s k id v i at idle z) ∙ b.1), b.2, b.3, b.4);
       }
 
+  -- beside the only pass, the value is at home, and its history has what each pass added
   pub ends : (id : ℕ) (v : V) (ws : List ℕ) (xs : List (Option L)) → v.live ≡ true → v.holds ≡ false → IsLone v → Final (Seen Rule id v) ws xs
       → (x : L) × (get_elem? xs 0 ≡ some (Some x)) × Finds root_of entries_of v x × ((n : ℕ) → 0 < n → signed_by n (entries_of x) ≡ own_of n v.ended)
   ends id v ws xs live idle lone final =

@@ -1,5 +1,5 @@
 pub mod History
 pub mod Known
 pub mod Rule
-pub mod Slots
+pub mod Seat
 pub mod View

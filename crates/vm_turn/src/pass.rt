@@ -18,15 +18,14 @@ pub struct Pass<L: Logged> {
 }
 
 impl<L: Logged> Model for Pass<L> {
-    ghost use Rattle.std.specs.Prelude.{◌≡◌, true};
     ghost use Rattle.vm_turn.specs.Known.{Known};
-    ghost use Rattle.vm_turn.specs.Slots.{held_slots};
+    ghost use Rattle.vm_turn.specs.Seat.{IsSeated};
 
     ghost Value = { Known L.Root };
 
     ghost view = { λ p. record { turnstile = p.seat.table_id; view = p.seat.me.0 } };
 
-    ghost invariant = { λ p. (p.seat.me.0.live ≡ true) × (p.seat.me.0.number ≡ p.number) × (p.seat.me.0.splits ≡ p.splits) × (p.seat.me.1 ≡ held_slots p.seat.me.0.holds) };
+    ghost invariant = { λ p. IsSeated p.seat.me p.number p.splits };
 }
 
 impl<L: Logged> Pass<L> {

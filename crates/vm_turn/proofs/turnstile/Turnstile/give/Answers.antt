@@ -9,6 +9,6 @@ store-requires g c =
     let i = c.pass.invariant in (
       search rules,
       search rules,
-      gives_back_as g.L.Logged.root g.L.Logged.entries _ _ c.exchange.new.seat.me _ _ c.args.held.value c.exchange.ensures.3 i.3 i.0 (ap (λ v. v.holds) is ∙ c.requires.holds) (ap (λ v. v.root) is ∙ c.requires.root)
+      gives_back_as g.L.Logged.root g.L.Logged.entries _ _ c.exchange.new.seat.me _ _ c.args.held.value c.exchange.ensures.3 i.slots i.live (ap (λ v. v.holds) is ∙ c.requires.holds) (ap (λ v. v.root) is ∙ c.requires.root)
           (subst (λ v. Adds v.number v.seen (g.L.Logged.entries c.args.held.value)) (sym is) c.requires.history),
     )

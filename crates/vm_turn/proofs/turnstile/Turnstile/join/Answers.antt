@@ -1,5 +1,5 @@
 use Rattle.std.proofs.Common.{rules, ap, ◌∙◌, sym, subst, ◌≢◌}
-use Rattle.vm_turn.specs.Slots.{held_slots}
+use Rattle.vm_turn.specs.Seat.{held_slots}
 use Rattle.vm_turn.proofs.Steps.{joins}
 use Rattle.vm_turn.proofs.turnstile.Turnstile.join.Goals as goal
 
@@ -10,7 +10,7 @@ join_seat-requires g c =
     let idle' = ap (λ v. v.holds) is' ∙ c.requires.idle.1 in (
       search rules,
       search rules,
-      c.ended.invariant.3 ∙ ap held_slots idle',
+      c.ended.invariant.slots ∙ ap held_slots idle',
       search rules,
-      joins g.L.Logged.root g.L.Logged.entries _ _ _ _ c.keeper.invariant.0 (ap (λ v. v.number) is ∙ c.requires.numbers.0) (ap (λ v. v.holds) is ∙ c.requires.idle.0) c.ended.invariant.0 (subst (λ v. v.number ≢ 0) (sym is') c.requires.numbers.1) idle',
+      joins g.L.Logged.root g.L.Logged.entries _ _ _ _ c.keeper.invariant.live (ap (λ v. v.number) is ∙ c.requires.numbers.0) (ap (λ v. v.holds) is ∙ c.requires.idle.0) c.ended.invariant.live (subst (λ v. v.number ≢ 0) (sym is') c.requires.numbers.1) idle',
     )
