@@ -1,0 +1,6 @@
+pub mod Answer
+pub mod Built
+pub mod Effect
+pub mod Running
+pub mod State
+pub mod Words

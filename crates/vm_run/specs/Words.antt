@@ -1,0 +1,14 @@
+-- The words of the command line, without the program's name.
+use Rattle.std.specs.Prelude.{◌≡◌, ◌≢◌, ℕ, List, [], ◌∷◌, codes, slice_index}
+use Rattle.vm_run.specs.declared.command.Command.{Command}
+use Rattle.vm_run.specs.declared.command.Command.TheVariants.{Solo}
+
+-- the words are `solo` and a file's name, which isn't empty and doesn't begin with `-`
+pub record AreSolo (words : List (List ℕ)) (name : List ℕ) : Type 0 where
+  pub spelled : words ≡ codes "solo" ∷ name ∷ []
+  pub some : name ≢ []
+  pub no_option : slice_index name 0 ≢ 45
+
+-- the file that a command names
+abbrev pub file_name : Command → List ℕ
+file_name (Solo name) = name
