@@ -1,6 +1,6 @@
 //! The words of the command line.
-ghost use Rattle.std.specs.Prelude.{◌≡◌, List, ℕ, map, OnOk, IfOk, IsErrOf};
-ghost use Rattle.vm_run.specs.Words.{AreSolo, file_name};
+ghost use Rattle.std.specs.Prelude.{◌≡◌, ◌↔◌, List, ℕ, map, IsTrue, IfOk, IsErrOf};
+ghost use Rattle.vm_run.specs.Words.{AreSolo, IsName, file_name};
 ghost use Rattle.vm_run.specs.declared.command.WordsFault.TheVariants.{Usage};
 
 use std::alloc::Global;
@@ -49,6 +49,8 @@ pub fn command_of(alloc: Global, words: &[&str]) -> Result<Command, WordsFault>
 }
 
 /// Whether a word may be a file's name.
-fn is_file_name(word: &str) -> bool {
+fn is_file_name(word: &str) -> bool
+    ensures { IsTrue result ↔ IsName word.now }
+{
     !word.is_empty() && !word.starts_with('-')
 }

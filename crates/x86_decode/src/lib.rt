@@ -1,0 +1,18 @@
+//! The decoder of the instructions that vmrun interprets, an integer subset of 64-bit x86.
+//!
+//! [`decode`] answers by the grammar of instructions alone, which `vm_law` states as a table of opcodes and
+//! a relation between bytes and instructions: it answers an instruction exactly where the bytes begin with
+//! a spelling of it, `Short` exactly where more bytes would make one, and `Unknown` else. [`one_spelling`]
+//! is the law that makes this answer the only one: no bytes spell two instructions, and no spelling is
+//! the beginning of another. Source: Intel SDM volume 2, sections 2.1 to 2.2 and appendix A.
+#![tactic(auto)]
+
+mod decoder;
+mod fault;
+mod index;
+mod meaning;
+mod parts;
+mod reading;
+
+pub use decoder::{decode, one_spelling};
+pub use fault::DecodeFault;
