@@ -40,12 +40,10 @@ pub fn command_of(alloc: Global, words: &[&str]) -> Result<Command, WordsFault>
     ensures usage { IsErrOf result Usage → (name : List ℕ) → AreSolo (map (λ w. w.now) words.entry.now) name → ⊥ }
     ensures memory { IsErrOf result WordsFault.Memory → (name : List ℕ) × AreSolo (map (λ w. w.now) words.entry.now) name }
 {
-    match words {
-        [word, name] if *word == "solo" && is_file_name(name) => {
-            Ok(Command::Solo(Text::from_text(alloc, name)?))
-        }
-        _ => Err(WordsFault::Usage),
+    if words.len() != 2 || words[0] != "solo" || !is_file_name(words[1]) {
+        return Err(WordsFault::Usage);
     }
+    Ok(Command::Solo(Text::from_text(alloc, words[1])?))
 }
 
 /// Whether a word may be a file's name.

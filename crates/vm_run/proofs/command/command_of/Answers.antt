@@ -1,16 +1,15 @@
-use Rattle.std.proofs.Common.{rules, ◌≡◌, List, ℕ, map, IfOk, IsErrOf, Bor}
-use Rattle.vm_run.specs.Words.{AreSolo, file_name}
-use Rattle.vm_run.specs.declared.command.WordsFault.TheVariants.{Usage}
+use Rattle.std.proofs.Common.{ℕ, List, [], Bor, arith, get_or, refl}
+use Rattle.vm_run.proofs.TwoWords.{solo_found}
 use Rattle.vm_run.proofs.command.command_of.Goals as goal
 
-pub returns-in_ok-from_text-in-len2-clause-found : goal.returns-in_ok-from_text-in-len2-clause-found
-returns-in_ok-from_text-in-len2-clause-found c = 
-  let h = c.eq.ensures in 
-  let h2 = c.is_file_name.ensures in 
-  let h3 = c.from_text.ensures in 
-  let h4 = c.in_ok-from_text-in-len2.ensures in 
-  let h5 = c.in-len2.len_at_least in 
-  let h6 = c.in-len2.len_below in 
-  let h7 = c.if-eq.true in 
-  let h8 = c.if-eq.ensures in 
-  ?
+abbrev nothing : Bor (List ℕ)
+nothing = record { ref_ptr = (0, 0); now = [] }
+
+pub returns-in_err-from_text-clause-memory : goal.returns-in_err-from_text-clause-memory
+returns-in_err-from_text-clause-memory c = λ _.
+    let name = (get_or c.args.words.now 1 nothing).now in
+    (name, solo_found c.args.words.now nothing name c.if-words-ne2.false c.if-ne.ensures refl (c.if-not-is_file_name.ensures.0 refl))
+
+pub returns-clause-found : goal.returns-clause-found
+returns-clause-found c =
+    solo_found c.args.words.now nothing c.in_ok-from_text.field-0 c.if-words-ne2.false c.if-ne.ensures c.in_ok-from_text.ensures (c.if-not-is_file_name.ensures.0 refl)
