@@ -1,5 +1,5 @@
 //! A file system: files by name, which are read, made, written, synced, and lent as disk images.
-ghost use Rattle.std.specs.Prelude.{◌≡◌, ◌≤◌, ◌<◌, Bool, true, List, [], ℕ, length, Option, Some, None, IsSome, IsNone, IfOk, IfSome, OnOk, IsErrOf, IsSomeAnd, OnErr};
+ghost use Rattle.std.specs.Prelude.{◌≡◌, ◌≤◌, ◌<◌, Bool, true, List, [], ℕ, length, Option, Some, None, IsSome, IfOk, IfSome, OnOk, IsErrOf, IsSomeAnd, OnErr};
 ghost use Rattle.vm_host.specs.declared.host.HostFault.TheVariants.{Missing, Failed};
 ghost use Rattle.vm_host.specs.Told.{WhereTold};
 ghost use Rattle.vm_host.specs.Counts.{HasCause, RoseExactly};

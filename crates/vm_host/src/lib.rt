@@ -10,12 +10,22 @@
 //! the old end. Bytes outside stay. After a sync that succeeded a crash leaves what a read gives.
 #![tactic(auto)]
 
+mod calls;
+mod event;
 mod gate;
 mod host;
 mod image;
+mod image_calls;
+mod mem_host;
+mod mem_image;
+mod mem_sink;
+mod overwrite;
 mod sink;
 
 pub use gate::{Gate, NoGate, Place};
 pub use host::{Host, HostFault};
 pub use image::{Image, ImageFault};
+pub use mem_host::MemHost;
+pub use mem_image::MemImage;
+pub use mem_sink::MemSink;
 pub use sink::{Sink, SinkFault};
