@@ -1,7 +1,6 @@
 -- What the built instructions do, in whole numbers. Source: Intel SDM volume 2, pages of MOV, JMP, OUT and HLT,
 -- and volume 1, section 3.4.1.1: a result of 32 bits clears the upper half of its register, one of 8 bits leaves the rest.
-use Rattle.std.specs.Prelude.{ℕ, ◌+◌, ◌*◌, ◌/◌, ◌%◌, ◌^◌, ◌==◌, ℤ, pos, ◌+ℤ◌, true, List, [], ◌∷◌, ◌++◌, None, slice_index, slice_set, if◌then◌else◌}
-use Rattle.std.specs.Int.{w8, w32, w64, cast_unsigned}
+use Rattle.std.specs.Prelude.{ℕ, ◌+◌, ◌*◌, ◌/◌, ◌%◌, ◌^◌, ◌==◌, ◌-◌, ℤ, pos, negsuc, ◌+ℤ◌, true, List, [], ◌∷◌, ◌++◌, None, slice_index, slice_set, if◌then◌else◌}
 use Rattle.vm_law.specs.declared.insn.Width.{Width}
 use Rattle.vm_law.specs.declared.insn.Width.TheVariants as width
 use Rattle.vm_law.specs.declared.insn.Loc.{Loc}
@@ -12,6 +11,11 @@ use Rattle.vm_law.specs.declared.insn.Op.{Op}
 use Rattle.vm_law.specs.declared.insn.Op.TheVariants as op
 use Rattle.vm_law.specs.declared.insn.Insn.{Insn}
 use Rattle.vm_run.specs.State.{State}
+
+-- what a number is modulo m, from 0 to m - 1
+abbrev pub modulo : ℤ → ℕ → ℕ
+modulo (pos n) m = n % m
+modulo (negsuc n) m = m - 1 - n % m
 
 -- the data port of the first serial port
 abbrev pub console_port : ℕ
@@ -36,14 +40,14 @@ with_second value byte = value / 65536 * 65536 + byte * 256 + value % 256
 
 -- MOV of an immediate, which is taken modulo 2 to the width
 abbrev pub after_mov : State → Width → Loc → Src → State
-after_mov s width.B (loc.Reg r) (src.Imm value) = with_register s r (with_low (register s r) (cast_unsigned w8 value))
-after_mov s width.B (loc.High r) (src.Imm value) = with_register s r (with_second (register s r) (cast_unsigned w8 value))
-after_mov s width.D (loc.Reg r) (src.Imm value) = with_register s r (cast_unsigned w32 value)
+after_mov s width.B (loc.Reg r) (src.Imm value) = with_register s r (with_low (register s r) (modulo value (2 ^ 8)))
+after_mov s width.B (loc.High r) (src.Imm value) = with_register s r (with_second (register s r) (modulo value (2 ^ 8)))
+after_mov s width.D (loc.Reg r) (src.Imm value) = with_register s r (modulo value (2 ^ 32))
 after_mov s w l source = s
 
 -- JMP, from the next instruction on
 abbrev pub after_jmp : State → ℤ → State
-after_jmp s by = with_rip s (cast_unsigned w64 (pos s.ctx.rip +ℤ by))
+after_jmp s by = with_rip s (modulo (pos s.ctx.rip +ℤ by) (2 ^ 64))
 
 -- OUT DX, AL: a byte for the console, or for a port where nothing is
 abbrev pub after_out : State → State

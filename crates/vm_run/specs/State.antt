@@ -10,16 +10,12 @@ pub record State : Type 0 where
   pub console : List ℕ
 
 -- at the start RIP is the image's entry, RFLAGS holds its one fixed bit, and all else is 0
-abbrev pub boot_ctx : ℕ → Ctx
-boot_ctx entry = record {
-  regs = replicate 16 0;
-  rip = entry;
-  rflags = 2;
-  idt_base = 0;
-  idt_limit = 0;
-  shadow = false;
-  nmi_block = false;
+abbrev pub boot : ℕ → State
+boot entry = record {
+  ctx = record { regs = replicate 16 0; rip = entry; rflags = 2; idt_base = 0; idt_limit = 0; shadow = false; nmi_block = false };
+  halted = false;
+  console = [];
 }
 
 abbrev pub at_start : FlatImage → State
-at_start f = record { ctx = boot_ctx f.entry; halted = false; console = [] }
+at_start f = boot f.entry

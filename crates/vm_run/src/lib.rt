@@ -13,6 +13,7 @@ mod command;
 mod console;
 mod image;
 mod loading;
+mod machine;
 mod outcome;
 
 pub use command::Command;
