@@ -97,3 +97,21 @@ image_allowed bytes entry code payload f parts image =
     let is_entry : entry ≡ f.entry = parts.is_entry ∙ back.entry in
     let size : length payload ≡ length f.payload = ap length (parts.is_payload ∙ back.payload) in
     (omega arith, omega arith, omega arith, omega arith)
+
+abbrev made : ℕ → ℕ → List ℕ → FlatImage
+made entry code payload = record { entry = entry; code = code; payload = payload }
+
+same_image : (f g : FlatImage) → f.entry ≡ g.entry → f.code ≡ g.code → f.payload ≡ g.payload → f ≡ g
+same_image f g entry code payload =
+    ap (λ (x : ℕ). made x f.code f.payload) entry
+    ∙ ap (λ (x : ℕ). made g.entry x f.payload) code
+    ∙ ap (λ (x : List ℕ). made g.entry g.code x) payload
+
+-- bytes are the file of one image
+pub one_image : (memory : ℕ) (bytes : List ℕ) (f g : FlatImage) → IsImage memory bytes f → IsImage memory bytes g → f ≡ g
+one_image memory bytes f g p q =
+    let a = p.allowed in
+    let b = q.allowed in
+    let first = image_back bytes f p.spelled (omega (arith, a.small_code, a.entry)) (omega (arith, a.small_code)) in
+    let second = image_back bytes g q.spelled (omega (arith, b.small_code, b.entry)) (omega (arith, b.small_code)) in
+    same_image f g (sym first.entry ∙ second.entry) (sym first.code ∙ second.code) (sym first.payload ∙ second.payload)

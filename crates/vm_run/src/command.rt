@@ -14,6 +14,17 @@ pub enum Command {
     Solo(Text),
 }
 
+impl Command {
+    /// The name of the file that it is about.
+    pub fn file(&self) -> &str
+        ensures { result.now ≡ file_name self.now }
+    {
+        match self {
+            Command::Solo(name) => name.as_str(),
+        }
+    }
+}
+
 /// Why words give no command.
 #[derive(Clone, Copy, Debug, PartialEq, Eq, Error)]
 pub enum WordsFault {

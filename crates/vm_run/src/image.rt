@@ -22,6 +22,7 @@ pub const IMAGE_LIMIT: u64 = 268_435_480;
 const MAGIC: [u8; 8] = *b"VMFLAT1\n";
 
 /// What is run of an image.
+#[derive(Clone, Copy)]
 pub struct Program<'a> {
     /// The address of the first instruction.
     pub entry: u64,

@@ -12,9 +12,15 @@
 mod command;
 mod console;
 mod image;
+mod law;
 mod loading;
 mod machine;
 mod outcome;
+mod running;
+mod solo;
+mod top;
 
 pub use command::Command;
+pub use law::one_outcome;
 pub use outcome::Outcome;
+pub use top::still_cmd;
