@@ -125,3 +125,6 @@ module _ (told : Bool) (file : Option (List ℕ)) (bytes : List ℕ) (is_told : 
   refuses heard before now none (Err solo.Memory) answers = (2, omega arith, refl)
   refuses heard before now none (Err solo.Missing) answers = absurd (let bad : ◌≡◌ {A = Option (List ℕ)} (Some bytes) None = sym here ∙ answers.missing refl is_told in cc bad)
   refuses heard before now none (Err solo.Console) answers = let w = answers.cut_short refl in absurd (no_run none w.1 w.0 w.2)
+
+pub one_status_more : (first : ℕ) (all : List ℕ) (status : ℕ) → Contains all status → Contains (first ∷ all) status
+one_status_more first all status (i, lt, e) = (suc i, omega arith, e)

@@ -27,3 +27,7 @@ solo_found (a ∷ b ∷ []) d name two first second good =
       is_name = rw second good;
     }
 solo_found (a ∷ b ∷ x ∷ ws) d name two first second good = absurd (omega arith)
+
+-- the words name one file
+pub one_name : (words : List (List ℕ)) (a b : List ℕ) → AreSolo words a → AreSolo words b → a ≡ b
+one_name words a b p q = let e : codes "solo" ∷ a ∷ [] ≡ codes "solo" ∷ b ∷ [] = sym p.spelled ∙ q.spelled in cc

@@ -23,4 +23,4 @@ mod top;
 pub use command::Command;
 pub use law::one_outcome;
 pub use outcome::Outcome;
-pub use top::still_cmd;
+pub use top::{still_cmd, vmrun};
