@@ -1,15 +1,15 @@
 -- A list of tests as the set of the places that pass.
 use Rattle.std.specs.Prelude.{if◌then◌else◌}
-use Rattle.std.proofs.Common.{◌≡◌, ℕ, zero, suc, ◌+◌, ◌<◌, ◌≤◌, Bool, true, false, not, ◌&&◌, ◌||◌, eqb, ltb, List, [], ◌∷◌, length, get_or, set, replicate, refl, sym, ap, add-one, arith, inl, inr, ◌∙◌}
-use Rattle.std.proofs.lemmas.Bool.{cases_lt, cases_eq, and_parts}
+use Rattle.std.proofs.Common.{◌≡◌, ℕ, zero, suc, ◌<◌, ◌≤◌, Bool, true, false, ◌&&◌, ◌||◌, eqb, ltb, List, [], ◌∷◌, length, get_or, set, replicate, refl, sym, ap, arith, inl, inr, ◌∙◌}
+use Rattle.std.proofs.lemmas.Bool.{cases_lt, and_parts}
 use mathlib.Core.Bool.{beq}
 use lib.Pointwise.{pointwise}
 use Rattle.std.proofs.lemmas.Bool.Decides.{nat_tests}
-use Rattle.std.proofs.lemmas.List.{ext_get_or, get_or_past, get_or-set_same, get_or-set_other, get_or-replicate}
+use Rattle.std.proofs.lemmas.List.{ext_get_or, get_or_past, get_or-replicate}
 use Rattle.std.proofs.lemmas.Grind.{common_steps}
 use Rattle.std.specs.Ordering.{nat_cmp}
 use Rattle.std.specs.Cmp.{nat_cmp_total}
-use Rattle.std.specs.FinSet.{contains, insert, remove, empty, same_set, members, nat_cmp-IsAntisymmetric, contains-insert, contains-empty, contains-remove}
+use Rattle.std.specs.FinSet.{contains, insert, remove, empty, same_set, members, nat_cmp-IsAntisymmetric, contains-empty}
 use Rattle.vm_law.specs.BitSet.{Numbers, set_below, set_of}
 
 has_if : (b : Bool) (s : Numbers) (n q : ℕ) → contains (if b then insert s n else s) q ≡ ((eqb q n && b) || contains s q)

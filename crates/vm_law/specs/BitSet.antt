@@ -1,5 +1,5 @@
 -- A list of tests as the set of the places that pass.
-use Rattle.std.specs.Prelude.{ℕ, zero, suc, Bool, true, false, List, length, slice_index_or, if◌then◌else◌}
+use Rattle.std.specs.Prelude.{ℕ, zero, suc, Bool, false, List, length, slice_index_or, if◌then◌else◌}
 use Rattle.std.specs.Ordering.{nat_cmp}
 use Rattle.std.specs.FinSet as set
 

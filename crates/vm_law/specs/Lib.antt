@@ -4,5 +4,6 @@ pub mod Grammar
 pub mod Image
 pub mod Meaning
 pub mod Memory
+pub mod Reader
 pub mod Rows
 pub mod Seq

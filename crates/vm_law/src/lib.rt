@@ -13,6 +13,7 @@ mod journal;
 mod memory;
 mod message;
 mod plan;
+pub mod reading;
 mod script;
 mod seq;
 mod stage;
@@ -36,3 +37,6 @@ pub use seq::Seq;
 pub use stage::{MeetKind, Owned};
 pub use table::{Class, Form, Imm, Map, Need, OpKind, ROWS, Row, Side, Slash};
 pub use text::Text;
+
+#[cfg(test)]
+mod tests;
