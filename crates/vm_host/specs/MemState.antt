@@ -1,5 +1,5 @@
 -- What files, images and sinks in memory are seen as.
-use Rattle.std.specs.Prelude.{◌≡◌, ℕ, ◌+◌, ◌-◌, ◌^◌, ◌==◌, min, max, Bool, true, IsTrue, List, Option, Some, None, not, if◌then◌else◌, Result, Err, IsErrOf}
+use Rattle.std.specs.Prelude.{◌≡◌, ℕ, ◌+◌, ◌-◌, ◌^◌, ◌==◌, min, max, Bool, true, IsTrue, List, Some, None, not, if◌then◌else◌, Result, Err, IsErrOf}
 use Rattle.std.specs.List.{list_any, filter, filter_map}
 use Rattle.std.specs.Str.{bytes_eq}
 use Rattle.vm_host.specs.Past.{Change}

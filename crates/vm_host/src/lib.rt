@@ -21,6 +21,8 @@ mod mem_image;
 mod mem_sink;
 mod overwrite;
 mod sink;
+#[cfg(test)]
+mod tests;
 
 pub use gate::{Gate, NoGate, Place};
 pub use host::{Host, HostFault};

@@ -1,7 +1,6 @@
-use Rattle.std.proofs.Common.{◌≡◌, ℕ, List, [], ◌∷◌, ◌++◌, ◌<◌, ◌+◌, length, take, get_or, Bool, true, false, Option, Some, None, if◌then◌else◌, sym, ◌∙◌, ap, refl, Vec, Global}
+use Rattle.std.proofs.Common.{◌≡◌, ℕ, List, [], ◌∷◌, ◌++◌, ◌<◌, ◌+◌, length, take, get_or, Bool, true, false, Some, None, if◌then◌else◌, sym, ◌∙◌, ap, refl, Vec, Global}
 use Rattle.std.proofs.lemmas.List.{take_more, append-nil}
 use Rattle.std.proofs.lemmas.List.Elements.{filter_map-append}
-use Rattle.std.specs.List.{filter_map}
 use Rattle.std.specs.Str.{bytes_eq}
 use Rattle.vm_host.specs.MemState.{ImageCall, calls_of}
 use Rattle.vm_host.proofs.image_calls.listed_for.Goals.{then-is_of+in_ok-push, else-is_of}
