@@ -35,8 +35,8 @@ image_read bytes fits le first =
     sym (take-append-drop 8 bytes)
     ∙ ap (λ (l : List ℕ). l ++ drop 8 bytes) first
     ∙ ap (λ (l : List ℕ). magic ++ l) (entry
-      ∙ ap (λ (l : List ℕ). little_bytes 8 (entry_in bytes) ++ l) (sym deep ∙ code
-        ∙ ap (λ (l : List ℕ). little_bytes 8 (code_in bytes) ++ l) (sym deeper)))
+    ∙ ap (λ (l : List ℕ). little_bytes 8 (entry_in bytes) ++ l) (sym deep ∙ code
+    ∙ ap (λ (l : List ℕ). little_bytes 8 (code_in bytes) ++ l) (sym deeper)))
 
 -- the same of the bytes of an image
 pub record ReadsBack (bytes : List ℕ) (f : FlatImage) : Type 0 where
@@ -81,11 +81,11 @@ image_found bytes entry code payload parts fits le first (small, within, inside,
       within = omega arith;
       entry = omega arith;
       fits = omega arith;
-    } in
-    ( image_in bytes
-    , record { spelled = image_read bytes fits le first; allowed = allowed }
-    , e
-    , ap (λ (n : ℕ). take n payload) c ∙ ap (λ (l : List ℕ). take (code_in bytes) l) parts.is_payload
+    } in (
+      image_in bytes,
+      record { spelled = image_read bytes fits le first; allowed = allowed },
+      e,
+      ap (λ (n : ℕ). take n payload) c ∙ ap (λ (l : List ℕ). take (code_in bytes) l) parts.is_payload,
     )
 
 pub image_allowed : (bytes : List ℕ) (entry code : ℕ) (payload : List ℕ) (f : FlatImage) → Parts bytes entry code payload

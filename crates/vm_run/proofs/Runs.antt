@@ -142,5 +142,5 @@ pub one_outcome : OneOutcome
 one_outcome bytes a b out put (f, f_image, n, t, p, is_out) (g, g_image, m, u, q, is_put) =
     let same : f ≡ g = one_image memory_size bytes f g f_image g_image in
     let ends = one_end (code_part g) (at_start g) instruction_limit n m t u a b
-        (subst (λ (x : FlatImage). Ends (code_part x) (at_start x) instruction_limit n t a) same p) q in
+    (subst (λ (x : FlatImage). Ends (code_part x) (at_start x) instruction_limit n t a) same p) q in
     (ends.2, is_out ∙ ap (λ (x : State). x.console) ends.1 ∙ sym is_put)

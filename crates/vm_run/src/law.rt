@@ -6,5 +6,4 @@ ghost use Rattle.vm_run.specs.Running.{OneEnd, OneOutcome};
 pub fn one_outcome()
     ensures run { OneEnd }
     ensures file { OneOutcome }
-{
-}
+{}

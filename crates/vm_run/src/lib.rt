@@ -18,6 +18,8 @@ mod machine;
 mod outcome;
 mod running;
 mod solo;
+#[cfg(test)]
+mod tests;
 mod top;
 
 pub use command::Command;

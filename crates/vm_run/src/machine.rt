@@ -104,7 +104,10 @@ impl Guest {
         self.ctx.rip = self.ctx.rip.wrapping_add(u64::from(len));
         match (insn.width, insn.op) {
             (Width::B, Op::Mov(Loc::Reg(r), Src::Imm(value))) => self.set_low(r, low_byte(value)),
-            (Width::B, Op::Mov(Loc::High(r), Src::Imm(value))) => self.set_second(r, low_byte(value)),
+            (Width::B, Op::Mov(Loc::High(r), Src::Imm(value))) => self.set_second(
+                r,
+                low_byte(value),
+            ),
             (_, Op::Mov(Loc::Reg(r), Src::Imm(value))) => self.set(r, low_half(value)),
             (_, Op::Jmp(by)) => self.ctx.rip = self.ctx.rip.wrapping_add_signed(i64::from(by)),
             (_, Op::Out(_)) => self.out()?,

@@ -40,7 +40,7 @@ pub fn still_cmd<H: Host, S: Sink, L: Sink>(
     ensures complete { (bytes : List ℕ) (f : FlatImage) → WhereTold (H.tells host.old)
         (H.file host.old (file_name command.now) ≡ Some bytes → IsImage memory_size bytes f
         → NoneRose (H.faults host.old) (H.faults host.new) (H.misses host.old) (H.misses host.new)
-            (S.faults console.old) (S.faults console.new)
+        (S.faults console.old) (S.faults console.new)
         → Contains ended_statuses result.status) }
     ensures refuses { (bytes : List ℕ) → WhereTold (H.tells host.old)
         (H.file host.old (file_name command.now) ≡ Some bytes → IsNoImage bytes
@@ -75,7 +75,7 @@ pub fn vmrun<R: Threads + Wait + Sync, H: Host, S: Sink, L: Sink, G: Gate + Sync
     // What each status says of the file and of the console.
     ensures answers { (name : List ℕ) → AreSolo (map (λ w. w.now) words.entry.now) name
         → Answers (H.tells host.old) (H.file host.old name)
-            (S.tells console.old) (S.taken console.old) (S.taken console.new) result.status }
+        (S.tells console.old) (S.taken console.old) (S.taken console.new) result.status }
 
     // A refusal of host or console has its status, and the status of a refusal has its cause.
     ensures causes { HasCauses result.status (H.faults host.old) (H.faults host.new)
@@ -85,7 +85,7 @@ pub fn vmrun<R: Threads + Wait + Sync, H: Host, S: Sink, L: Sink, G: Gate + Sync
     ensures complete { (name bytes : List ℕ) (f : FlatImage) → AreSolo (map (λ w. w.now) words.entry.now) name
         → WhereTold (H.tells host.old) (H.file host.old name ≡ Some bytes → IsImage memory_size bytes f
         → NoneRose (H.faults host.old) (H.faults host.new) (H.misses host.old) (H.misses host.new)
-            (S.faults console.old) (S.faults console.new)
+        (S.faults console.old) (S.faults console.new)
         → Contains ended_statuses result.status) }
     ensures refuses { (name bytes : List ℕ) → AreSolo (map (λ w. w.now) words.entry.now) name
         → WhereTold (H.tells host.old) (H.file host.old name ≡ Some bytes → IsNoImage bytes

@@ -5,7 +5,7 @@ use Rattle.vm_run.proofs.Exits.{err_status, load_answers}
 use Rattle.vm_run.proofs.solo.run_file.Goals as goal
 
 pub returns-in_err-bytes-clause-answers : goal.returns-in_err-bytes-clause-answers
-returns-in_err-bytes-clause-answers g c = 
+returns-in_err-bytes-clause-answers g c =
     let told = g.H.Host.tells c.args.host.now in
     let file = g.H.Host.file c.args.host.now c.args.name.now in
     let heard = g.S.Sink.tells c.args.console.now in
