@@ -1,4 +1,6 @@
--- What a crash at some moment may leave in a file.
+-- What a crash at some moment may leave in a file. Between two syncs each written range, and the part between the old
+-- end and the end of a written range, may hold any bytes after a crash, or be cut off where it lies past the old end;
+-- bytes outside stay; after a sync that succeeded (fsync(2)) a crash leaves what a read gives.
 use Rattle.std.specs.Prelude.{◌≡◌, ◌≢◌, ◌⊎◌, ℕ, ◌+◌, ◌≤◌, ◌<◌, ◌-◌, min, max, List, length, take, drop, Option, Some, Result, OnOk, OnErr}
 use Rattle.vm_host.specs.declared.host.HostFault.{HostFault}
 
@@ -25,13 +27,15 @@ pub record AddsNothing (before now : ℕ) (old new : List ℕ → ℕ → List �
   pub nothing_else : (q : List ℕ) (t : ℕ) (b : List ℕ) → t ≤ before → new q t b → old q t b
   pub keeps : (q : List ℕ) (t : ℕ) (b : List ℕ) → t ≤ before → old q t b → new q t b
 
--- after a write of n bytes that a crash cuts short: the same outside the range and below the old end, and no longer than the greater end
+-- after a write of n bytes that a crash cuts short: the same outside the range and below the old end, no shorter than before and
+-- no longer than the greater end
 pub record Torn (at n : ℕ) (old new : List ℕ) : Type 0 where
   pub before : take (min at (length old)) new ≡ take at old
   pub after : take (length old - (at + n)) (drop (at + n) new) ≡ drop (at + n) old
   pub no_shorter : length old ≤ length new
   pub no_longer : length new ≤ max (length old) (at + n)
 
+-- a crash leaves what it could leave before, or that with the write cut short
 abbrev pub AddsTorn : ℕ → ℕ → (List ℕ → Type 0) → (List ℕ → Type 0) → Type 0
 AddsTorn at n old new = (b : List ℕ) → new b → old b ⊎ ((d : List ℕ) × old d × Torn at n d b)
 

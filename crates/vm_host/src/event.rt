@@ -13,7 +13,8 @@ pub enum Kind {
     Wrote { at: u64, len: u64 },
     /// The file was put or synced.
     Held,
-    /// The file was lent as an image, or came back from one. Whether that stands in the place of a making.
+    /// The file was lent as an image, or came back from one. Whether that stands in the place of a
+    /// making.
     Lent { made: bool },
 }
 

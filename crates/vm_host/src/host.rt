@@ -57,9 +57,9 @@ impl From<OutOfMemory> for HostFault {
 
 /// Files by name: a finite map of names to byte lists.
 ///
-/// Each call, also one that fails, leaves all files but the one that it names.
-/// `Failed` comes only where `faults` rose, `Missing` only where `misses` rose, and neither count rises at another answer.
-/// `Memory` may be the answer of each call that has an answer.
+/// Each call, also one that fails, leaves all files but the one that it names. `Failed` comes only
+/// where `faults` rose, `Missing` only where `misses` rose, and neither count rises at another
+/// answer. `Memory` may be the answer of each call that has an answer.
 pub trait Host {
     /// A file that is lent as a disk image.
     type Image: Image + Send + Drop;
@@ -79,18 +79,21 @@ pub trait Host {
     /// How many images came back with faults of their own. It stands still at 2^64 - 1.
     ghost image_faults: { Self → ℕ };
 
-    /// The present moment, a number that never falls. Crashes are spoken of by the moment from which on they come.
+    /// The present moment, a number that never falls. Crashes are spoken of by the moment from
+    /// which on they come.
     ghost moment: { Self → ℕ };
 
     /// The moment at the end of a file's last successful `make`, or 0.
     ghost made: { Self → List ℕ → ℕ };
 
-    /// `left h name t b`: a crash at some moment from t to now may have left these bytes in that file.
+    /// `left h name t b`: a crash at some moment from t to now may have left these bytes in that
+    /// file.
     ghost left: { Self → List ℕ → ℕ → List ℕ → Type 0 };
 
     /// How many bytes a file has.
     ///
-    /// `Missing` comes only where there is no such file. The file stays as it is, also after a fault.
+    /// `Missing` comes only where there is no such file. The file stays as it is, also after a
+    /// fault.
     fn length(&mut self, name: &str) -> Result<u64, HostFault>
         ensures told { tells self.new ≡ tells self.old }
         ensures value { WhereTold (tells self.old)
@@ -98,17 +101,21 @@ pub trait Host {
         ensures missing { WhereTold (tells self.old)
             (IsErrOf result Missing → file self.old name.now ≡ None) }
         ensures files { WhereTold (tells self.old) (file self.new ≡ file self.old) }
-        ensures cause { HasCause (faults self.old) (faults self.new) (misses self.old) (misses self.new) result }
+        ensures cause { HasCause (faults self.old) (faults self.new)
+            (misses self.old) (misses self.new) result }
         ensures image_faults { image_faults self.new ≡ image_faults self.old }
         ensures crash { WhereTold (tells self.old) (AddsNothing (moment self.old) (moment self.new)
             (left self.old) (left self.new)) }
-        ensures reads { WhereTold (tells self.old) (ReadsNow (moment self.new) (left self.new) (file self.new)) }
+        ensures reads { WhereTold (tells self.old)
+            (ReadsNow (moment self.new) (left self.new) (file self.new)) }
         ensures made { WhereTold (tells self.old) (made self.new ≡ made self.old) };
 
-    /// Reads a file from byte `at` on into `into`, as pread(2) does, and answers how many bytes were read: as many
-    /// as fit into `into` or stand there. So 0 comes only at or past the end, or for an empty `into`.
+    /// Reads a file from byte `at` on into `into`, as pread(2) does, and answers how many bytes
+    /// were read: as many as fit into `into` or stand there. So 0 comes only at or past the end, or
+    /// for an empty `into`.
     ///
-    /// `Missing` comes only where there is no such file. The file stays as it is, also after a fault.
+    /// `Missing` comes only where there is no such file. The file stays as it is, also after a
+    /// fault.
     fn read_at(&mut self, name: &str, at: u64, into: &mut [u8]) -> Result<usize, HostFault>
         ensures within { IfOk result (λ n. n ≤ length into.old) }
         ensures told { tells self.new ≡ tells self.old }
@@ -117,34 +124,44 @@ pub trait Host {
         ensures missing { WhereTold (tells self.old)
             (IsErrOf result Missing → file self.old name.now ≡ None) }
         ensures files { WhereTold (tells self.old) (file self.new ≡ file self.old) }
-        ensures cause { HasCause (faults self.old) (faults self.new) (misses self.old) (misses self.new) result }
+        ensures cause { HasCause (faults self.old) (faults self.new)
+            (misses self.old) (misses self.new) result }
         ensures image_faults { image_faults self.new ≡ image_faults self.old }
         ensures crash { WhereTold (tells self.old) (AddsNothing (moment self.old) (moment self.new)
             (left self.old) (left self.new)) }
-        ensures reads { WhereTold (tells self.old) (ReadsNow (moment self.new) (left self.new) (file self.new)) }
+        ensures reads { WhereTold (tells self.old)
+            (ReadsNow (moment self.new) (left self.new) (file self.new)) }
         ensures made { WhereTold (tells self.old) (made self.new ≡ made self.old) };
 
     /// Makes a file anew: it is then there and empty, also in every crash from its `Ok` on, until
     /// the next write. After a fault nothing is known of that file.
     fn make(&mut self, alloc: Global, name: &str) -> Result<(), HostFault>
         ensures told { tells self.new ≡ tells self.old }
-        ensures empty { WhereTold (tells self.old) (OnOk result (file self.new name.now ≡ Some [])) }
-        ensures others { WhereTold (tells self.old) (LeavesOthers name.now (file self.old) (file self.new)) }
-        ensures cause { HasCause (faults self.old) (faults self.new) (misses self.old) (misses self.new) result }
+        ensures empty { WhereTold (tells self.old)
+            (OnOk result (file self.new name.now ≡ Some [])) }
+        ensures others { WhereTold (tells self.old)
+            (LeavesOthers name.now (file self.old) (file self.new)) }
+        ensures cause { HasCause (faults self.old) (faults self.new)
+            (misses self.old) (misses self.new) result }
         ensures not_missing { IsErrOf result Missing → ⊥ }
         ensures image_faults { image_faults self.new ≡ image_faults self.old }
-        ensures time { WhereTold (tells self.old) (Passes name.now (moment self.old) (moment self.new)
+        ensures time { WhereTold (tells self.old)
+            (Passes name.now (moment self.old) (moment self.new)
             (left self.old) (left self.new)) }
-        ensures reads { WhereTold (tells self.old) (ReadsNow (moment self.new) (left self.new) (file self.new)) }
-        ensures made { WhereTold (tells self.old) (Makes name.now (moment self.old) (moment self.new)
+        ensures reads { WhereTold (tells self.old)
+            (ReadsNow (moment self.new) (left self.new) (file self.new)) }
+        ensures made { WhereTold (tells self.old)
+            (Makes name.now (moment self.old) (moment self.new)
             (made self.old) (made self.new) result) }
         ensures crash { WhereTold (tells self.old)
             (OnOk result (Only [] (left self.new name.now (moment self.new)))) };
 
-    /// Writes a piece over a file that stands, from byte `at` on, as pwrite(2) does. The file is longer afterwards
-    /// where the piece ends past the old end; between an old end and a later `at` stand any bytes.
+    /// Writes a piece over a file that stands, from byte `at` on, as pwrite(2) does. The file is
+    /// longer afterwards where the piece ends past the old end; between an old end and a later `at`
+    /// stand any bytes.
     ///
-    /// After a fault the file still stands, and nothing else is known of its bytes than of a write that a crash cut short.
+    /// After a fault the file still stands, and nothing else is known of its bytes than of a write
+    /// that a crash cut short.
     fn write_at(
         &mut self,
         alloc: Global,
@@ -157,37 +174,45 @@ pub trait Host {
         ensures written { WhereTold (tells self.old) (OnOk result
             (Written (file self.old name.now) at piece.now (file self.new name.now))) }
         ensures stands { WhereTold (tells self.old) (IsSome (file self.new name.now)) }
-        ensures others { WhereTold (tells self.old) (LeavesOthers name.now (file self.old) (file self.new)) }
-        ensures cause { HasCause (faults self.old) (faults self.new) (misses self.old) (misses self.new) result }
+        ensures others { WhereTold (tells self.old)
+            (LeavesOthers name.now (file self.old) (file self.new)) }
+        ensures cause { HasCause (faults self.old) (faults self.new)
+            (misses self.old) (misses self.new) result }
         ensures not_missing { IsErrOf result Missing → ⊥ }
         ensures image_faults { image_faults self.new ≡ image_faults self.old }
-        ensures time { WhereTold (tells self.old) (Passes name.now (moment self.old) (moment self.new)
+        ensures time { WhereTold (tells self.old)
+            (Passes name.now (moment self.old) (moment self.new)
             (left self.old) (left self.new)) }
-        ensures reads { WhereTold (tells self.old) (ReadsNow (moment self.new) (left self.new) (file self.new)) }
+        ensures reads { WhereTold (tells self.old)
+            (ReadsNow (moment self.new) (left self.new) (file self.new)) }
         ensures made { WhereTold (tells self.old) (made self.new ≡ made self.old) }
         ensures crash { WhereTold (tells self.old) (AddsTorn at (length piece.now)
             (left self.old name.now (moment self.old)) (left self.new name.now (moment self.old))) };
 
-    /// Makes sure that what was written lasts, as fsync(2) does: after `Ok` a crash leaves what a read gives.
+    /// Makes sure that what was written lasts, as fsync(2) does: after `Ok` a crash leaves what a
+    /// read gives.
     ///
     /// What the file reads as stays, also after a fault.
     fn sync(&mut self, name: &str) -> Result<(), HostFault>
         requires { WhereTold (tells self.old) (IsSome (file self.old name.now)) }
         ensures told { tells self.new ≡ tells self.old }
         ensures files { WhereTold (tells self.old) (file self.new ≡ file self.old) }
-        ensures cause { HasCause (faults self.old) (faults self.new) (misses self.old) (misses self.new) result }
+        ensures cause { HasCause (faults self.old) (faults self.new)
+            (misses self.old) (misses self.new) result }
         ensures not_missing { IsErrOf result Missing → ⊥ }
         ensures image_faults { image_faults self.new ≡ image_faults self.old }
         ensures crash { WhereTold (tells self.old) (AddsNothing (moment self.old) (moment self.new)
             (left self.old) (left self.new)) }
-        ensures reads { WhereTold (tells self.old) (ReadsNow (moment self.new) (left self.new) (file self.new)) }
+        ensures reads { WhereTold (tells self.old)
+            (ReadsNow (moment self.new) (left self.new) (file self.new)) }
         ensures made { WhereTold (tells self.old) (made self.new ≡ made self.old) }
         ensures durable { WhereTold (tells self.old) (OnOk result
             (IfSome (file self.old name.now) (λ f. Only f (left self.new name.now (moment self.new))))) };
 
     /// Lends a file that stands as an image, which reads as the file and whose counts are 0.
     ///
-    /// Until it is closed the file stands, and nothing is known of its bytes. After a fault every file is as before.
+    /// Until it is closed the file stands, and nothing is known of its bytes. After a fault every
+    /// file is as before.
     fn open_image(&mut self, alloc: Global, name: &str) -> Result<Self::Image, HostFault>
         requires { WhereTold (tells self.old) (IsSome (file self.old name.now)) }
         ensures told { tells self.new ≡ tells self.old }
@@ -195,15 +220,21 @@ pub trait Host {
         ensures image { WhereTold (tells self.old)
             (IfOk result (λ i. file self.old name.now ≡ Some (Self.Image.content i))) }
         ensures fresh { IfOk result (λ i. (Self.Image.faults i ≡ 0) × (Self.Image.syncs i ≡ 0)) }
-        ensures stands { WhereTold (tells self.old) (OnOk result (IsSome (file self.new name.now))) }
-        ensures refused { WhereTold (tells self.old) (OnErr result (file self.new ≡ file self.old)) }
-        ensures others { WhereTold (tells self.old) (LeavesOthers name.now (file self.old) (file self.new)) }
-        ensures cause { HasCause (faults self.old) (faults self.new) (misses self.old) (misses self.new) result }
+        ensures stands { WhereTold (tells self.old)
+            (OnOk result (IsSome (file self.new name.now))) }
+        ensures refused { WhereTold (tells self.old)
+            (OnErr result (file self.new ≡ file self.old)) }
+        ensures others { WhereTold (tells self.old)
+            (LeavesOthers name.now (file self.old) (file self.new)) }
+        ensures cause { HasCause (faults self.old) (faults self.new)
+            (misses self.old) (misses self.new) result }
         ensures not_missing { IsErrOf result Missing → ⊥ }
         ensures image_faults { image_faults self.new ≡ image_faults self.old }
-        ensures time { WhereTold (tells self.old) (Passes name.now (moment self.old) (moment self.new)
+        ensures time { WhereTold (tells self.old)
+            (Passes name.now (moment self.old) (moment self.new)
             (left self.old) (left self.new)) }
-        ensures reads { WhereTold (tells self.old) (ReadsNow (moment self.new) (left self.new) (file self.new)) }
+        ensures reads { WhereTold (tells self.old)
+            (ReadsNow (moment self.new) (left self.new) (file self.new)) }
         ensures made { WhereTold (tells self.old) (made self.new ≡ made self.old) };
 
     /// Takes an image back. The file then reads as the image's content.
@@ -214,13 +245,16 @@ pub trait Host {
         ensures told { tells self.new ≡ tells self.old }
         ensures content { WhereTold (tells self.old) (WhereTold (Self.Image.tells image)
             (file self.new name.now ≡ Some (Self.Image.content image))) }
-        ensures others { WhereTold (tells self.old) (LeavesOthers name.now (file self.old) (file self.new)) }
+        ensures others { WhereTold (tells self.old)
+            (LeavesOthers name.now (file self.old) (file self.new)) }
         ensures faults { faults self.new ≡ faults self.old }
         ensures misses { misses self.new ≡ misses self.old }
         ensures image_faults { RoseExactly (0 < Self.Image.faults image) (image_faults self.old) (image_faults self.new) }
-        ensures time { WhereTold (tells self.old) (Passes name.now (moment self.old) (moment self.new)
+        ensures time { WhereTold (tells self.old)
+            (Passes name.now (moment self.old) (moment self.new)
             (left self.old) (left self.new)) }
-        ensures reads { WhereTold (tells self.old) (ReadsNow (moment self.new) (left self.new) (file self.new)) }
+        ensures reads { WhereTold (tells self.old)
+            (ReadsNow (moment self.new) (left self.new) (file self.new)) }
         ensures made { WhereTold (tells self.old) (made self.new ≡ made self.old) };
 
     /// A file was made at a moment that has passed.

@@ -27,8 +27,8 @@ pub trait Image {
 
     /// Replaces one sector, counted from 0, which must be inside where the bytes are told.
     ///
-    /// After `ImageFault`, which raises `faults`, that sector may hold any bytes. All others stay in
-    /// either case.
+    /// After `ImageFault`, which raises `faults`, that sector may hold any bytes. All others stay
+    /// in either case.
     fn write_at(&mut self, sector: u64, bytes: &[u8; 512]) -> Result<(), ImageFault>
         requires { WhereTold (tells self.old) (512 * sector + 512 ≤ length (content self.old)) }
         ensures told { tells self.new ≡ tells self.old }

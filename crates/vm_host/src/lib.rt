@@ -1,13 +1,15 @@
-//! What the virtual machine monitor asks of its surroundings: files by name, disk images, byte sinks and a gate.
+//! What the virtual machine monitor asks of its surroundings: files by name, disk images, byte
+//! sinks and a gate.
 //!
 //! The traits [`Host`], [`Image`] and [`Sink`] have a meaning (files, bytes, bytes taken) that an
 //! implementation may tell or keep to itself. Clauses about content are under the premise that it
-//! tells: in memory it does, over a real file system or terminal it doesn't. Counts of
-//! refusals are told by all of them, so that each refusal has its cause.
+//! tells: in memory it does, over a real file system or terminal it doesn't. Counts of refusals are
+//! told by all of them, so that each refusal has its cause.
 //!
-//! Crashes follow this rule of disks: between two syncs a written range, and what lies between
-//! the old end and the end of a written range, may hold any bytes afterwards, or be cut off where it lies past
-//! the old end. Bytes outside stay. After a sync that succeeded a crash leaves what a read gives.
+//! Crashes follow this rule of disks: between two syncs a written range, and what lies between the
+//! old end and the end of a written range, may hold any bytes afterwards, or be cut off where it
+//! lies past the old end. Bytes outside stay. After a sync that succeeded a crash leaves what a
+//! read gives.
 #![tactic(auto)]
 
 mod calls;

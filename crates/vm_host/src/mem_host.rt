@@ -44,7 +44,8 @@ impl Model for MemHost {
 }
 
 impl MemHost {
-    /// A host without files, whose next call is number 0 and whose counts are 0. It keeps the allocator.
+    /// A host without files, whose next call is number 0 and whose counts are 0. It keeps the
+    /// allocator.
     pub fn new(alloc: Global) -> MemHost
         ensures { result ≡ record { past = []; calls = no_calls []; failing_images = []; misses = 0; image_faults = 0 } }
     {
@@ -58,7 +59,8 @@ impl MemHost {
         }
     }
 
-    /// Puts a file of these bytes in the place of what that name had. It is all on the disk: a crash leaves it.
+    /// Puts a file of these bytes in the place of what that name had. It is all on the disk: a
+    /// crash leaves it.
     ///
     /// It is no call that is numbered. After `OutOfMemory` nothing has changed.
     pub fn put(&mut self, alloc: Global, name: &str, bytes: &[u8]) -> Result<(), OutOfMemory>
@@ -73,7 +75,8 @@ impl MemHost {
         self.remember(name, bytes, Kind::Held)
     }
 
-    /// Lists the call of this number as one that is to fail. After `OutOfMemory` nothing has changed.
+    /// Lists the call of this number as one that is to fail. After `OutOfMemory` nothing has
+    /// changed.
     pub fn fail(&mut self, _alloc: Global, call: u64) -> Result<(), OutOfMemory>
         ensures listed { OnOk result (self.new ≡ record self.old {
           calls = record self.old.calls { failing = self.old.calls.failing ++ call ∷ [] };
@@ -211,13 +214,16 @@ impl Host for MemHost {
         ensures told { true ≡ true }
         ensures value { WhereTold true
             (IfOk result (λ n. IsSomeAnd (file_of self.old.past name.now) (λ f. n ≡ length f))) }
-        ensures missing { WhereTold true (IsErrOf result HostFault.Missing → file_of self.old.past name.now ≡ None) }
+        ensures missing { WhereTold true
+            (IsErrOf result HostFault.Missing → file_of self.old.past name.now ≡ None) }
         ensures files { WhereTold true (file_of self.new.past ≡ file_of self.old.past) }
-        ensures cause { HasCause self.old.calls.faults self.new.calls.faults self.old.misses self.new.misses result }
+        ensures cause { HasCause self.old.calls.faults self.new.calls.faults
+            self.old.misses self.new.misses result }
         ensures image_faults { self.new.image_faults ≡ self.old.image_faults }
         ensures crash { WhereTold true (AddsNothing (length self.old.past) (length self.new.past)
             (LeftSince self.old.past) (LeftSince self.new.past)) }
-        ensures reads { WhereTold true (ReadsNow (length self.new.past) (LeftSince self.new.past) (file_of self.new.past)) }
+        ensures reads { WhereTold true
+            (ReadsNow (length self.new.past) (LeftSince self.new.past) (file_of self.new.past)) }
         ensures made { WhereTold true (made_at self.new.past ≡ made_at self.old.past) }
     {
         if self.call_fails() {
@@ -241,13 +247,16 @@ impl Host for MemHost {
         ensures told { true ≡ true }
         ensures value { WhereTold true
             (IfOk result (λ n. IsSomeAnd (file_of self.old.past name.now) (λ f. ReadsFrom f at into.new n))) }
-        ensures missing { WhereTold true (IsErrOf result HostFault.Missing → file_of self.old.past name.now ≡ None) }
+        ensures missing { WhereTold true
+            (IsErrOf result HostFault.Missing → file_of self.old.past name.now ≡ None) }
         ensures files { WhereTold true (file_of self.new.past ≡ file_of self.old.past) }
-        ensures cause { HasCause self.old.calls.faults self.new.calls.faults self.old.misses self.new.misses result }
+        ensures cause { HasCause self.old.calls.faults self.new.calls.faults
+            self.old.misses self.new.misses result }
         ensures image_faults { self.new.image_faults ≡ self.old.image_faults }
         ensures crash { WhereTold true (AddsNothing (length self.old.past) (length self.new.past)
             (LeftSince self.old.past) (LeftSince self.new.past)) }
-        ensures reads { WhereTold true (ReadsNow (length self.new.past) (LeftSince self.new.past) (file_of self.new.past)) }
+        ensures reads { WhereTold true
+            (ReadsNow (length self.new.past) (LeftSince self.new.past) (file_of self.new.past)) }
         ensures made { WhereTold true (made_at self.new.past ≡ made_at self.old.past) }
     {
         if self.call_fails() {
@@ -267,13 +276,16 @@ impl Host for MemHost {
         ensures other_calls { self.new.failing_images ≡ self.old.failing_images }
         ensures told { true ≡ true }
         ensures empty { WhereTold true (OnOk result (file_of self.new.past name.now ≡ Some [])) }
-        ensures others { WhereTold true (LeavesOthers name.now (file_of self.old.past) (file_of self.new.past)) }
-        ensures cause { HasCause self.old.calls.faults self.new.calls.faults self.old.misses self.new.misses result }
+        ensures others { WhereTold true
+            (LeavesOthers name.now (file_of self.old.past) (file_of self.new.past)) }
+        ensures cause { HasCause self.old.calls.faults self.new.calls.faults
+            self.old.misses self.new.misses result }
         ensures not_missing { IsErrOf result HostFault.Missing → ⊥ }
         ensures image_faults { self.new.image_faults ≡ self.old.image_faults }
         ensures time { WhereTold true (Passes name.now (length self.old.past) (length self.new.past)
             (LeftSince self.old.past) (LeftSince self.new.past)) }
-        ensures reads { WhereTold true (ReadsNow (length self.new.past) (LeftSince self.new.past) (file_of self.new.past)) }
+        ensures reads { WhereTold true
+            (ReadsNow (length self.new.past) (LeftSince self.new.past) (file_of self.new.past)) }
         ensures made { WhereTold true (Makes name.now (length self.old.past) (length self.new.past)
             (made_at self.old.past) (made_at self.new.past) result) }
         ensures crash { WhereTold true
@@ -302,13 +314,16 @@ impl Host for MemHost {
         ensures written { WhereTold true (OnOk result
             (Written (file_of self.old.past name.now) at piece.now (file_of self.new.past name.now))) }
         ensures stands { WhereTold true (IsSome (file_of self.new.past name.now)) }
-        ensures others { WhereTold true (LeavesOthers name.now (file_of self.old.past) (file_of self.new.past)) }
-        ensures cause { HasCause self.old.calls.faults self.new.calls.faults self.old.misses self.new.misses result }
+        ensures others { WhereTold true
+            (LeavesOthers name.now (file_of self.old.past) (file_of self.new.past)) }
+        ensures cause { HasCause self.old.calls.faults self.new.calls.faults
+            self.old.misses self.new.misses result }
         ensures not_missing { IsErrOf result HostFault.Missing → ⊥ }
         ensures image_faults { self.new.image_faults ≡ self.old.image_faults }
         ensures time { WhereTold true (Passes name.now (length self.old.past) (length self.new.past)
             (LeftSince self.old.past) (LeftSince self.new.past)) }
-        ensures reads { WhereTold true (ReadsNow (length self.new.past) (LeftSince self.new.past) (file_of self.new.past)) }
+        ensures reads { WhereTold true
+            (ReadsNow (length self.new.past) (LeftSince self.new.past) (file_of self.new.past)) }
         ensures made { WhereTold true (made_at self.new.past ≡ made_at self.old.past) }
         ensures crash { WhereTold true (AddsTorn at (length piece.now)
             (LeftSince self.old.past name.now (length self.old.past))
@@ -334,12 +349,14 @@ impl Host for MemHost {
         ensures other_calls { self.new.failing_images ≡ self.old.failing_images }
         ensures told { true ≡ true }
         ensures files { WhereTold true (file_of self.new.past ≡ file_of self.old.past) }
-        ensures cause { HasCause self.old.calls.faults self.new.calls.faults self.old.misses self.new.misses result }
+        ensures cause { HasCause self.old.calls.faults self.new.calls.faults
+            self.old.misses self.new.misses result }
         ensures not_missing { IsErrOf result HostFault.Missing → ⊥ }
         ensures image_faults { self.new.image_faults ≡ self.old.image_faults }
         ensures crash { WhereTold true (AddsNothing (length self.old.past) (length self.new.past)
             (LeftSince self.old.past) (LeftSince self.new.past)) }
-        ensures reads { WhereTold true (ReadsNow (length self.new.past) (LeftSince self.new.past) (file_of self.new.past)) }
+        ensures reads { WhereTold true
+            (ReadsNow (length self.new.past) (LeftSince self.new.past) (file_of self.new.past)) }
         ensures made { WhereTold true (made_at self.new.past ≡ made_at self.old.past) }
         ensures durable { WhereTold true (OnOk result
             (IfSome (file_of self.old.past name.now) (λ f. Only f (LeftSince self.new.past name.now (length self.new.past))))) }
@@ -364,17 +381,22 @@ impl Host for MemHost {
         ensures taken_off { OnOk result (self.new.failing_images ≡ calls_of_others self.old.failing_images name.now) }
         ensures told { true ≡ true }
         ensures image_told { IfOk result (λ i. true ≡ true) }
-        ensures image { WhereTold true (IfOk result (λ i. file_of self.old.past name.now ≡ Some i.bytes)) }
+        ensures image { WhereTold true
+            (IfOk result (λ i. file_of self.old.past name.now ≡ Some i.bytes)) }
         ensures fresh { IfOk result (λ i. (i.calls.faults ≡ 0) × (i.syncs ≡ 0)) }
         ensures stands { WhereTold true (OnOk result (IsSome (file_of self.new.past name.now))) }
-        ensures refused { WhereTold true (OnErr result (file_of self.new.past ≡ file_of self.old.past)) }
-        ensures others { WhereTold true (LeavesOthers name.now (file_of self.old.past) (file_of self.new.past)) }
-        ensures cause { HasCause self.old.calls.faults self.new.calls.faults self.old.misses self.new.misses result }
+        ensures refused { WhereTold true
+            (OnErr result (file_of self.new.past ≡ file_of self.old.past)) }
+        ensures others { WhereTold true
+            (LeavesOthers name.now (file_of self.old.past) (file_of self.new.past)) }
+        ensures cause { HasCause self.old.calls.faults self.new.calls.faults
+            self.old.misses self.new.misses result }
         ensures not_missing { IsErrOf result HostFault.Missing → ⊥ }
         ensures image_faults { self.new.image_faults ≡ self.old.image_faults }
         ensures time { WhereTold true (Passes name.now (length self.old.past) (length self.new.past)
             (LeftSince self.old.past) (LeftSince self.new.past)) }
-        ensures reads { WhereTold true (ReadsNow (length self.new.past) (LeftSince self.new.past) (file_of self.new.past)) }
+        ensures reads { WhereTold true
+            (ReadsNow (length self.new.past) (LeftSince self.new.past) (file_of self.new.past)) }
         ensures made { WhereTold true (made_at self.new.past ≡ made_at self.old.past) }
     {
         if self.call_fails() {
@@ -396,14 +418,17 @@ impl Host for MemHost {
         ensures calls { self.new.calls ≡ self.old.calls }
         ensures other_calls { self.new.failing_images ≡ self.old.failing_images }
         ensures told { true ≡ true }
-        ensures content { WhereTold true (WhereTold true (file_of self.new.past name.now ≡ Some image.bytes)) }
-        ensures others { WhereTold true (LeavesOthers name.now (file_of self.old.past) (file_of self.new.past)) }
+        ensures content { WhereTold true
+            (WhereTold true (file_of self.new.past name.now ≡ Some image.bytes)) }
+        ensures others { WhereTold true
+            (LeavesOthers name.now (file_of self.old.past) (file_of self.new.past)) }
         ensures faults { self.new.calls.faults ≡ self.old.calls.faults }
         ensures misses { self.new.misses ≡ self.old.misses }
         ensures image_faults { RoseExactly (0 < image.calls.faults) self.old.image_faults self.new.image_faults }
         ensures time { WhereTold true (Passes name.now (length self.old.past) (length self.new.past)
             (LeftSince self.old.past) (LeftSince self.new.past)) }
-        ensures reads { WhereTold true (ReadsNow (length self.new.past) (LeftSince self.new.past) (file_of self.new.past)) }
+        ensures reads { WhereTold true
+            (ReadsNow (length self.new.past) (LeftSince self.new.past) (file_of self.new.past)) }
         ensures made { WhereTold true (made_at self.new.past ≡ made_at self.old.past) }
     {
         self.count_image(image.has_failed());

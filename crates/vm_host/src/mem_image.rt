@@ -91,7 +91,8 @@ impl Image for MemImage {
         ensures told { true ≡ true }
         ensures written { WhereTold true
             (OnOk result (Holds self.old.bytes (512 * sector) bytes.now self.new.bytes)) }
-        ensures others { WhereTold true (SameOutside (512 * sector) 512 self.old.bytes self.new.bytes) }
+        ensures others { WhereTold true
+            (SameOutside (512 * sector) 512 self.old.bytes self.new.bytes) }
         ensures cause { Counted self.old.calls.faults self.new.calls.faults result }
         ensures syncs { self.new.syncs ≡ self.old.syncs }
     {

@@ -39,7 +39,8 @@ impl MemSink {
         }
     }
 
-    /// Lists the call of this number as one that is to fail. After `OutOfMemory` nothing has changed.
+    /// Lists the call of this number as one that is to fail. After `OutOfMemory` nothing has
+    /// changed.
     pub fn fail(&mut self, call: u64) -> Result<(), OutOfMemory>
         ensures listed { OnOk result (self.new ≡ record self.old {
           calls = record self.old.calls { failing = self.old.calls.failing ++ call ∷ [] };
