@@ -1,5 +1,5 @@
 -- Where a vCPU can't go on.
-use Rattle.std.proofs.Common.{◌≡◌, ℕ, ◌≤◌, Bool, true, false, List, length, take, Result, Ok, Err, sym, subst, ◌∙◌, inl, inr, refl}
+use Rattle.std.proofs.Common.{◌≡◌, ℕ, ◌≤◌, false, List, length, take, Result, Err, sym, inl, inr}
 use Rattle.std.specs.Prelude.{◌↔◌}
 use Rattle.vm_law.specs.declared.insn.Insn.{Insn}
 use Rattle.vm_law.specs.Grammar.{Spelled, IsPartial, IsUnknown}

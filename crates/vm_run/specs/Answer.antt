@@ -1,5 +1,5 @@
 -- What a command answers and writes, and why.
-use Rattle.std.specs.Prelude.{◌≡◌, ℕ, ◌<◌, ◌≤◌, Bool, true, List, [], ◌∷◌, ◌++◌, take, Option, Some, None, Contains}
+use Rattle.std.specs.Prelude.{◌≡◌, ℕ, ◌<◌, ◌≤◌, Bool, List, [], ◌∷◌, ◌++◌, take, Option, Some, None, Contains}
 use Rattle.vm_law.specs.declared.image.FlatImage.{FlatImage}
 use Rattle.vm_law.specs.Image.{IsImage}
 use Rattle.vm_host.specs.Told.{WhereTold}

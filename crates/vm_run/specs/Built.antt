@@ -1,6 +1,6 @@
 -- The instructions that are built: those that the opcodes B0+r, B8+r, EB, EE and F4 spell without prefix and REX byte.
 -- Source: Intel SDM volume 2, pages of MOV, JMP, OUT and HLT.
-use Rattle.std.specs.Prelude.{ℕ, ℤ, pos, negsuc, Bool, true, false, ◌&&◌, not, nat_lt, None}
+use Rattle.std.specs.Prelude.{ℤ, pos, negsuc, Bool, true, false, ◌&&◌, not, nat_lt, None}
 use Rattle.vm_law.specs.declared.insn.Width.{Width}
 use Rattle.vm_law.specs.declared.insn.Width.TheVariants as width
 use Rattle.vm_law.specs.declared.insn.Loc.{Loc}

@@ -1,6 +1,6 @@
 -- What the built instructions do, in whole numbers. Source: Intel SDM volume 2, pages of MOV, JMP, OUT and HLT,
 -- and volume 1, section 3.4.1.1: a result of 32 bits clears the upper half of its register, one of 8 bits leaves the rest.
-use Rattle.std.specs.Prelude.{ℕ, ◌+◌, ◌*◌, ◌/◌, ◌%◌, ◌^◌, ◌==◌, ◌-◌, ℤ, pos, negsuc, ◌+ℤ◌, true, List, [], ◌∷◌, ◌++◌, None, slice_index, slice_set, if◌then◌else◌}
+use Rattle.std.specs.Prelude.{ℕ, ◌+◌, ◌*◌, ◌/◌, ◌%◌, ◌^◌, ◌==◌, ◌-◌, ℤ, pos, negsuc, ◌+ℤ◌, true, [], ◌∷◌, ◌++◌, None, slice_index, slice_set, if◌then◌else◌}
 use Rattle.vm_law.specs.declared.insn.Width.{Width}
 use Rattle.vm_law.specs.declared.insn.Width.TheVariants as width
 use Rattle.vm_law.specs.declared.insn.Loc.{Loc}

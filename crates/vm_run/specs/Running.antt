@@ -1,5 +1,5 @@
 -- Runs of a vCPU over the code part of an image, instruction after instruction.
-use Rattle.std.specs.Prelude.{◌≡◌, ℕ, zero, suc, ◌<◌, ◌≤◌, Bool, true, false, List, length, take, drop, ◌⊎◌}
+use Rattle.std.specs.Prelude.{◌≡◌, ℕ, zero, suc, ◌<◌, ◌≤◌, true, false, List, length, take, drop, ◌⊎◌}
 use Rattle.vm_law.specs.declared.insn.Insn.{Insn}
 use Rattle.vm_law.specs.declared.image.FlatImage.{FlatImage}
 use Rattle.vm_law.specs.Grammar.{Spelled, IsPartial, IsUnknown}

@@ -1,4 +1,4 @@
-use Rattle.std.proofs.Common.{ℕ, List, [], Bor, arith, get_or, refl}
+use Rattle.std.proofs.Common.{ℕ, List, [], Bor, get_or, refl}
 use Rattle.vm_run.proofs.TwoWords.{solo_found}
 use Rattle.vm_run.proofs.command.command_of.Goals as goal
 

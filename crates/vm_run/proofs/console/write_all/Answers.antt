@@ -1,4 +1,4 @@
-use Rattle.std.proofs.Common.{◌-◌, length-take, length-drop, ◌≡◌, ◌++◌, ℕ, List, ◌+◌, take, drop, sym, ap, ◌∙◌, arith, length, append_assoc}
+use Rattle.std.proofs.Common.{◌-◌, length-take, length-drop, ◌++◌, ℕ, List, take, drop, ap, ◌∙◌, arith, length}
 use Rattle.vm_run.proofs.Pieces.{took_more}
 use Rattle.vm_run.proofs.console.write_all.Goals as goal
 

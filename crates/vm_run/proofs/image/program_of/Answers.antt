@@ -1,4 +1,4 @@
-use Rattle.std.proofs.Common.{◌≡◌, refl, arith}
+use Rattle.std.proofs.Common.{refl, arith}
 use Rattle.vm_run.proofs.Images.{image_found, image_allowed}
 use Rattle.vm_run.proofs.image.program_of.Goals as goal
 

@@ -1,9 +1,8 @@
-use Rattle.std.proofs.Common.{◌≡◌, ℕ, ◌<◌, Result, Ok, sym, ap, subst, ◌∙◌, arith}
+use Rattle.std.proofs.Common.{Result, Ok, sym, ap, subst, ◌∙◌, arith}
 use Rattle.vm_law.specs.declared.memory.OutOfMemory.{OutOfMemory}
 use Rattle.vm_run.specs.State.{State}
 use Rattle.vm_run.specs.Running.{Ends}
 use Rattle.vm_run.specs.declared.machine.Step.{Step}
-use Rattle.vm_run.specs.declared.machine.Step.TheVariants.{Ran, Stopped}
 use Rattle.vm_run.proofs.Runs.{at_first, one_more, ends_halted, ends_stopped, ends_spent}
 use Rattle.vm_run.proofs.running.run.Goals as goal
 

@@ -1,4 +1,4 @@
-use Rattle.std.proofs.Common.{◌≡◌, ℕ, sym, subst}
+use Rattle.std.proofs.Common.{ℕ, sym, subst}
 use Rattle.vm_run.specs.Answer.{Answers}
 use Rattle.vm_run.specs.Statuses.{after_load}
 use Rattle.vm_run.proofs.Exits.{err_status, load_answers}

@@ -1,4 +1,4 @@
-use Rattle.std.proofs.Common.{◌≡◌, ℕ, List, Some, Contains, sym, ap, ◌∙◌}
+use Rattle.std.proofs.Common.{◌≡◌, ℕ, List, ap, ◌∙◌}
 use Rattle.vm_run.specs.Answer.{statuses}
 use Rattle.vm_run.specs.Words.{file_name}
 use Rattle.vm_run.proofs.Exits.{one_status_more}
