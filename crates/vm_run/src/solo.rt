@@ -120,7 +120,7 @@ pub fn run_file<H: Host, S: Sink>(
         return Err(SoloFault::Image);
     };
     let mut guest = Guest::new(alloc, program.entry);
-    let ended = run(&mut guest, program.code, INSTRUCTION_LIMIT)?;
+    let end = run(&mut guest, program.code, INSTRUCTION_LIMIT)?;
     write_all(console, guest.console())?;
-    Ok(ended)
+    Ok(end)
 }
