@@ -1,6 +1,6 @@
 -- Shifts and rotates of an operand a of s bits by n.
 -- Source: Intel SDM volume 2, the pages of SAL, SAR, SHL, SHR and of RCL, RCR, ROL, ROR.
-use Rattle.std.specs.Prelude.{ℕ, ◌+◌, ◌-◌, ◌*◌, ◌/◌, ◌%◌, ◌^◌, Bool, true, false, not, ◌&&◌, nat_lt, ◌==◌, if◌then◌else◌}
+use Rattle.std.specs.Prelude.{◌≡◌, ◌⊎◌, ℕ, ◌+◌, ◌-◌, ◌*◌, ◌/◌, ◌%◌, ◌^◌, Bool, true, false, not, ◌&&◌, nat_lt, ◌==◌, if◌then◌else◌}
 use Rattle.vm_law.specs.declared.insn.Width.{Width}
 use Rattle.vm_law.specs.declared.insn.Width.TheVariants.{B, W, D, Q}
 use Rattle.x86_alu.specs.declared.flags.Flags.{Flags}
@@ -71,7 +71,11 @@ shr_flags s a r n = record (of_result (2 ^ s) r) { cf = shr_carry s a n; of = n 
 unfoldable pub sar_flags : ℕ → ℕ → ℕ → ℕ → Flags
 sar_flags s a r n = record (of_result (2 ^ s) r) { cf = sar_carry s a n }
 
--- the operand after, by the instructions' numbers: ROL 0, ROR 1, SHL 4, SHR 5, SAR 7
+-- the instructions by their numbers: ROL 0, ROR 1, SHL 4, SHR 5, SAR 7
+abbrev pub IsShift : ℕ → Type 0
+IsShift k = (k ≡ 0) ⊎ (k ≡ 1) ⊎ (k ≡ 4) ⊎ (k ≡ 5) ⊎ (k ≡ 7)
+
+-- the operand after
 unfoldable pub shifted : ℕ → ℕ → ℕ → ℕ → ℕ
 shifted k s a n =
     if k == 0 then rol_of s a n
