@@ -49,12 +49,12 @@ ror_fits s a n some h =
 
 -- ---- the shift that keeps the sign
 
-signed_high : (m a : ℕ) → is_negative m a ≡ true → a < m → signed m a ≡ negsuc (m - 1 - a)
+pub signed_high : (m a : ℕ) → is_negative m a ≡ true → a < m → signed m a ≡ negsuc (m - 1 - a)
 unfolding signed
 signed_high m a e h =
     rw e (same_in (pos a -ℤ pos m) (negsuc (m - 1 - a)) (omega (arith, sum_is_lem (pos a) (neg_ℤ (pos m)), neg_is (pos m))))
 
-signed_low : (m a : ℕ) → is_negative m a ≡ false → signed m a ≡ pos a
+pub signed_low : (m a : ℕ) → is_negative m a ≡ false → signed m a ≡ pos a
 unfolding signed
 signed_low m a e = rw e refl
 

@@ -1,6 +1,6 @@
 -- Products of two operands, and quotients of a double operand. m is the number of values of an operand.
 -- Source: Intel SDM volume 2, the pages of MUL, IMUL, DIV, IDIV.
-use Rattle.std.specs.Prelude.{ℕ, ◌+◌, ◌*◌, ◌/◌, ◌%◌, ℤ, pos, ◌*ℤ◌, int_div, int_rem, int_le, int_lt, Bool, true, false, not, ◌&&◌, ◌||◌, ◌==◌}
+use Rattle.std.specs.Prelude.{ℕ, ◌+◌, ◌*◌, ◌/◌, ◌%◌, ℤ, pos, ◌*ℤ◌, neg_ℤ, int_div, int_rem, int_le, int_lt, Bool, true, false, not, ◌&&◌, ◌||◌, ◌==◌}
 use Rattle.x86_alu.specs.declared.flags.Flags.{Flags}
 use Rattle.x86_alu.specs.Operand.{signed, fits_signed, residue}
 use Rattle.x86_alu.specs.Flags.{with_flags}
@@ -9,6 +9,11 @@ use Rattle.x86_alu.specs.Flags.{with_flags}
 unfoldable pub value : Bool → ℕ → ℕ → ℤ
 value true m a = signed m a
 value false m a = pos a
+
+-- an integer by its sign and its size
+abbrev pub integer : Bool → ℕ → ℤ
+integer true n = neg_ℤ (pos n)
+integer false n = pos n
 
 -- z is the integer of some operand
 unfoldable pub fits : Bool → ℕ → ℤ → Bool

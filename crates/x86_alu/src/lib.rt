@@ -2,11 +2,15 @@
 #![tactic(auto)]
 
 mod arithmetic;
+mod bit_tests;
 mod flags;
 mod op;
 mod operand;
-mod shift;
+mod product;
+mod shifts;
 
 pub use arithmetic::alu;
 pub use flags::Flags;
 pub use op::{AluOp, BitOp};
+pub use product::{div, mul};
+pub use shifts::shift;

@@ -1,6 +1,6 @@
 use Rattle.std.proofs.Common.{lt_of_lt_of_le}
 use Rattle.x86_alu.proofs.Moves.{ror_sum_fits, span_le}
-use Rattle.x86_alu.proofs.shift.ror.Goals as goal
+use Rattle.x86_alu.proofs.shifts.ror.Goals as goal
 
 pub overflow_add-result : goal.overflow_add-result
 overflow_add-result c = record {

@@ -1,7 +1,7 @@
 use Rattle.std.proofs.Common.{◌≡◌, ◌-◌, ◌/◌, ◌^◌, ℕ, sym, ap, ◌∙◌, arith, div-le_self, lt_of_le_of_lt}
 use Rattle.x86_alu.specs.Operand.{span}
 use Rattle.x86_alu.proofs.Moves.{sar_high, sar_low}
-use Rattle.x86_alu.proofs.shift.sar.Goals as goal
+use Rattle.x86_alu.proofs.shifts.sar.Goals as goal
 
 pub returns-then-is_negative : goal.returns-then-is_negative
 returns-then-is_negative c =

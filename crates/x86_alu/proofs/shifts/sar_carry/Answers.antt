@@ -4,7 +4,7 @@ use Rattle.x86_alu.specs.Flags.{is_set}
 use Rattle.x86_alu.specs.Shift.{sar_of, sar_carry}
 use Rattle.x86_alu.proofs.Masks.{size_pos}
 use Rattle.x86_alu.proofs.Moves.{sar_low_bit}
-use Rattle.x86_alu.proofs.shift.sar_carry.Goals as goal
+use Rattle.x86_alu.proofs.shifts.sar_carry.Goals as goal
 
 pub returns : goal.returns
 unfolding sar_carry is_set
