@@ -1,12 +1,13 @@
 -- What masks and shifts of machine words are as whole numbers.
 use Rattle.std.proofs.Common.{◌≡◌, ◌≢◌, ℕ, suc, ◌+◌, ◌-◌, ◌*◌, ◌/◌, ◌%◌, ◌^◌, ◌<◌, ◌≤◌, Bool, true, false, nat_eq, nat_le, bit_and, bit_or, w64, refl, sym, ap, subst, ◌∙◌, inl, inr, ◌⊎◌, arith, pow_pos, add-one, pow-suc, mul_comm, add_assoc, mul-le-mul_right, mod-eq_of_lt, lt_of_le_of_lt}
 use Rattle.std.specs.Int.{bit_at}
-use Rattle.std.proofs.lemmas.Nat.{and_mask, shr_split, shr_below, mod_below, shr_high, and_le_l, div-mul-add}
-use Rattle.std.proofs.lemmas.Nat.Bits.{same_from_bits, bit_at_set_same, bit_at_set_other, bit_at_clear_same, bit_at_clear_other, bit_at_cat_low, bit_at_cat_high, bit_at_above}
+use Rattle.std.proofs.lemmas.Nat.{and_mask, shr_split, shr_below, mod_below, shr_high, and_le_l, div-mul-add, mul-add-lt, pow-add, leading_top}
+use Rattle.std.proofs.lemmas.Nat.Bits.{same_from_bits, bit_at_set_same, bit_at_set_other, bit_at_clear_same, bit_at_clear_other, bit_at_cat_low, bit_at_cat_high, bit_at_above, bit_at-trailing_zeros}
 use Rattle.std.proofs.lemmas.Bool.{cases_order, cases_lt, cases_eq, lt-leb, le-leb}
 use Rattle.vm_law.specs.declared.insn.Width.{Width}
 use Rattle.vm_law.specs.declared.insn.Width.TheVariants.{B, W, D, Q}
 use Rattle.x86_alu.specs.Flags.{bit, with_bit}
+use Rattle.x86_alu.specs.BitTest.{IsLowestOne, IsHighestOne, lowest_one, highest_one}
 use Rattle.x86_alu.specs.Operand.{span, size_of, is_negative}
 
 pub low_bits : (n k mask : ℕ) → mask + 1 ≡ 2 ^ k → bit_and n mask ≡ n % 2 ^ k
@@ -74,6 +75,10 @@ bit_put_other n i d j small apart = elim (cases_order j i) [
   | inr (inl h) ↦ bit_put_below n i d j h
   | inr (inr h) ↦ bit_put_above n i d j small h ]
 
+bit_small : (b : Bool) → bit b < 2
+bit_small true = omega arith
+bit_small false = omega arith
+
 -- a number with the bits of n but for bit i, which is d
 from_bits : (n i d r : ℕ) → d < 2 → bit_at r i ≡ d → ((j : ℕ) → j ≢ i → bit_at r j ≡ bit_at n j) → r ≡ put n i d
 from_bits n i d r small here others = same_from_bits r (put n i d) (λ j.
@@ -98,7 +103,18 @@ unfolding with_bit
 clear_is n k fits within = from_bits n k 0 (bit_and n (2 ^ 64 - 1 - 1 * 2 ^ k % 2 ^ 64)) (omega arith)
     (bit_at_clear_same w64 n k within) (λ j apart. cleared_other n k j fits within apart)
 
--- ---- the top bit
+pub with_bit_fits : (s n i : ℕ) (b : Bool) → i < s → n < 2 ^ s → with_bit n i b < 2 ^ s
+unfolding with_bit
+with_bit_fits s n i b within h =
+    let e : s ≡ s - (i + 1) + (i + 1) = omega arith in
+    let whole : 2 ^ s ≡ 2 ^ (i + 1) * 2 ^ (s - (i + 1)) =
+      ap (λ (x : ℕ). 2 ^ x) e ∙ pow-add 2 (s - (i + 1)) (i + 1) ∙ mul_comm (2 ^ (s - (i + 1))) (2 ^ (i + 1)) in
+    let above : n / 2 ^ (i + 1) < 2 ^ (s - (i + 1)) = shr_below n (s - (i + 1)) (i + 1) (subst (λ (x : ℕ). n < 2 ^ x) e h) in
+    subst (λ (x : ℕ). x < 2 ^ s) (sym (put_grouped n i (bit b)))
+      (subst (λ (x : ℕ). n / 2 ^ (i + 1) * 2 ^ (i + 1) + (bit b * 2 ^ i + n % 2 ^ i) < x) (sym whole)
+        (mul-add-lt (n / 2 ^ (i + 1)) (2 ^ (i + 1)) (bit b * 2 ^ i + n % 2 ^ i) (2 ^ (s - (i + 1))) above (low_part n i (bit b) (bit_small b))))
+
+-- ---- quotients 0 and 1
 
 below_one : (a h : ℕ) → a < h → a / h ≡ 0
 below_one a h low = ap (λ (x : ℕ). x / h) (omega arith) ∙ div-mul-add 0 h a low
@@ -107,6 +123,26 @@ div_one : (a h : ℕ) → 0 < h → h ≤ a → a < 2 * h → a / h ≡ 1
 div_one a h some high fits =
     let low : a - h < h = omega arith in
     ap (λ (x : ℕ). x / h) (omega arith) ∙ div-mul-add 1 h (a - h) low
+
+-- ---- the lowest 1 and the highest 1
+
+pub lowest_is : (n : ℕ) → 0 < n → n < 2 ^ 64 → IsLowestOne n (lowest_one n)
+lowest_is n some h =
+    let p = bit_at-trailing_zeros w64 n some h in
+    record { one = p.1; zeros = p.2 }
+
+highest_at : (n j : ℕ) → 2 ^ j ≤ n → n < 2 ^ suc j → IsHighestOne n j
+highest_at n j low high = record {
+    one = ap (λ (x : ℕ). x % 2) (div_one n (2 ^ j) (pow_pos j) low (omega (arith, high, pow-suc 2 j)));
+    zeros = λ i h. bit_at_above n (suc j) i high (omega arith) }
+
+pub highest_is : (n : ℕ) → 0 < n → n < 2 ^ 64 → IsHighestOne n (highest_one n)
+highest_is n some h =
+    let p = leading_top 64 n some h in
+    let place : highest_one n ≡ p.0 = omega (arith, p.1) in
+    subst (λ (x : ℕ). IsHighestOne n x) (sym place) (highest_at n p.0 p.2 p.3)
+
+-- ---- the top bit
 
 -- an operand of two halves h is in the upper one
 top_of : (a h : ℕ) → 0 < h → a < 2 * h → nat_eq (a / h) 1 ≡ nat_le h a
@@ -140,3 +176,11 @@ span_even B = omega arith
 span_even W = omega arith
 span_even D = omega arith
 span_even Q = omega arith
+
+-- a bit of an operand is replaced, by an index that is taken modulo the size
+pub indexed_fits : (w : Width) (a b z size r : ℕ) (on : Bool) → z ≡ size → size ≡ size_of w → r ≡ with_bit a (b % z) on
+    → a < span w → r < span w
+indexed_fits w a b z size r on ez es er h =
+    let same : z ≡ size_of w = ez ∙ es in
+    let within : b % z < size_of w = subst (λ (x : ℕ). b % z < x) same (mod_below b z (subst (λ (x : ℕ). 0 < x) (sym same) (size_pos w))) in
+    subst (λ (x : ℕ). x < span w) (sym er) (with_bit_fits (size_of w) a (b % z) on within h)

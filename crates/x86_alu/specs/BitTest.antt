@@ -1,7 +1,7 @@
 -- Tests and scans of bits. s is the number of bits of an operand.
 -- Source: Intel SDM volume 2, the pages of BT, BTS, BTR, BTC, BSF, BSR.
-use Rattle.std.specs.Prelude.{◌≡◌, ℕ, ◌%◌, ◌<◌, Bool, true, false, not, ◌==◌, if◌then◌else◌}
-use Rattle.std.specs.Int.{bit_at}
+use Rattle.std.specs.Prelude.{◌≡◌, ℕ, ◌-◌, ◌%◌, ◌<◌, Bool, true, false, not, ◌==◌, if◌then◌else◌}
+use Rattle.std.specs.Int.{bit_at, w64, trailing_zeros, leading_zeros}
 use Rattle.x86_alu.specs.declared.flags.Flags.{Flags}
 use Rattle.x86_alu.specs.declared.op.BitOp.{BitOp}
 use Rattle.x86_alu.specs.declared.op.BitOp.TheVariants as op
@@ -17,15 +17,21 @@ pub record IsHighestOne (n i : ℕ) : Type 0 where
   pub one : bit_at n i ≡ 1
   pub zeros : (j : ℕ) → i < j → bit_at n j ≡ 0
 
--- r is the operand after: a is the one before, b the index, taken modulo the size, or the operand that is scanned.
--- A scan of 0 leaves a.
-abbrev pub BitResult : BitOp → ℕ → ℕ → ℕ → ℕ → Type 0
-BitResult op.Bt s a b r = r ≡ a
-BitResult op.Bts s a b r = r ≡ with_bit a (b % s) true
-BitResult op.Btr s a b r = r ≡ with_bit a (b % s) false
-BitResult op.Btc s a b r = r ≡ with_bit a (b % s) (not (is_set a (b % s)))
-BitResult op.Bsf s a b r = (b ≡ 0 → r ≡ a) × (0 < b → IsLowestOne b r)
-BitResult op.Bsr s a b r = (b ≡ 0 → r ≡ a) × (0 < b → IsHighestOne b r)
+-- the two places, counted from either end of 64 bits
+abbrev pub lowest_one : ℕ → ℕ
+lowest_one n = trailing_zeros w64 n
+
+abbrev pub highest_one : ℕ → ℕ
+highest_one n = 63 - leading_zeros w64 n
+
+-- the operand after: a is the one before, b the index, taken modulo the size, or the operand that is scanned. A scan of 0 leaves a.
+unfoldable pub bit_result : BitOp → ℕ → ℕ → ℕ → ℕ
+bit_result op.Bt s a b = a
+bit_result op.Bts s a b = with_bit a (b % s) true
+bit_result op.Btr s a b = with_bit a (b % s) false
+bit_result op.Btc s a b = with_bit a (b % s) (not (is_set a (b % s)))
+bit_result op.Bsf s a b = if b == 0 then a else lowest_one b
+bit_result op.Bsr s a b = if b == 0 then a else highest_one b
 
 -- a test: CF is the bit, ZF stays, the others are clear
 unfoldable pub tested : ℕ → ℕ → ℕ → ℕ → ℕ

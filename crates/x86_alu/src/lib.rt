@@ -10,6 +10,7 @@ mod product;
 mod shifts;
 
 pub use arithmetic::alu;
+pub use bit_tests::bits;
 pub use flags::Flags;
 pub use op::{AluOp, BitOp};
 pub use product::{div, mul};
