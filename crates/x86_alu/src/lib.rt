@@ -15,3 +15,8 @@ pub use flags::Flags;
 pub use op::{AluOp, BitOp};
 pub use product::{div, mul};
 pub use shifts::shift;
+
+#[cfg(test)]
+mod cases;
+#[cfg(test)]
+mod tests;
