@@ -1,11 +1,11 @@
 -- Integers by sign and size, and the operands that stand for them. mask is the greatest operand.
-use Rattle.std.proofs.Common.{◌≡◌, ℕ, zero, suc, ◌+◌, ◌-◌, ◌*◌, ◌/◌, ◌%◌, ◌^◌, ◌<◌, ◌≤◌, Bool, true, false, not, ◌&&◌, ℤ, pos, negsuc, ◌*ℤ◌, neg_ℤ, int_div, int_rem, int_le, int_lt, nat_eq, nat_le, nat_lt, refl, sym, ap, ap₂, subst, ◌∙◌, inl, inr, ◌⊎◌, arith, mod-eq_of_lt, unsigned_abs, ne_eqb, pos_of_ne-zero, ◌||◌}
+use Rattle.std.proofs.Common.{◌≡◌, ℕ, zero, suc, ◌+◌, ◌-◌, ◌*◌, ◌/◌, ◌%◌, ◌^◌, ◌<◌, ◌≤◌, Bool, true, false, not, ◌&&◌, ℤ, pos, negsuc, ◌*ℤ◌, neg_ℤ, int_div, int_rem, nat_eq, nat_le, refl, sym, ap, ap₂, ◌∙◌, inl, inr, arith, mod-eq_of_lt, unsigned_abs, ne_eqb, pos_of_ne-zero, ◌||◌}
 use Rattle.std.proofs.lemmas.Bool.{cases_lt, lt-leb, le-leb, lt-ltb, le-ltb}
 use borrow.Author.Differences.{up, down, same_in, neg_is, product_is}
 use mathlib.Core.Bool.{beq}
 use native.Mathlib.Nat.{zero-div, zero-mod}
 use Rattle.vm_law.specs.declared.insn.Width.{Width}
-use Rattle.x86_alu.specs.Operand.{span, size_of, is_negative, signed, fits_signed, residue}
+use Rattle.x86_alu.specs.Operand.{span, size_of, is_negative, residue}
 use Rattle.x86_alu.specs.Product.{value, integer, fits, product_of, quotient_of, remainder_of, div_faults}
 use Rattle.x86_alu.proofs.Masks.{size_le}
 use Rattle.std.proofs.lemmas.Nat.{div_below, shl_whole}
@@ -20,18 +20,20 @@ half_of mask odd = omega arith
 pub fits_negative : (mask size : ℕ) → mask % 2 ≡ 1 → nat_le size (mask / 2 + 1) ≡ fits true (mask + 1) (integer true size)
 unfolding fits
 fits_negative mask size odd = elim (cases_lt (mask / 2 + 1) size) [
-    inl large ↦ lt-leb size (mask / 2 + 1) large
+  | inl large ↦ lt-leb size (mask / 2 + 1) large
       ∙ sym (fits_not_low (mask + 1) (neg_ℤ (pos size)) (omega (arith, neg_is (pos size), half_of mask odd)))
   | inr small ↦ le-leb size (mask / 2 + 1) small
-      ∙ sym (fits_yes (mask + 1) (neg_ℤ (pos size)) (omega (arith, neg_is (pos size), half_of mask odd)) (omega (arith, neg_is (pos size), half_of mask odd))) ]
+      ∙ sym (fits_yes (mask + 1) (neg_ℤ (pos size)) (omega (arith, neg_is (pos size), half_of mask odd)) (omega (arith, neg_is (pos size), half_of mask odd)))
+]
 
 pub fits_positive : (mask size : ℕ) → mask % 2 ≡ 1 → nat_le size (mask / 2) ≡ fits true (mask + 1) (integer false size)
 unfolding fits
 fits_positive mask size odd = elim (cases_lt (mask / 2) size) [
-    inl large ↦ lt-leb size (mask / 2) large
+  | inl large ↦ lt-leb size (mask / 2) large
       ∙ sym (fits_not_high (mask + 1) (pos size) (omega (arith, half_of mask odd)))
   | inr small ↦ le-leb size (mask / 2) small
-      ∙ sym (fits_yes (mask + 1) (pos size) (omega (arith, half_of mask odd)) (omega (arith, half_of mask odd))) ]
+      ∙ sym (fits_yes (mask + 1) (pos size) (omega (arith, half_of mask odd)) (omega (arith, half_of mask odd)))
+]
 
 pub fits_below_zero : (mask size : ℕ) → nat_eq size 0 ≡ fits false (mask + 1) (integer true size)
 unfolding fits
@@ -41,10 +43,11 @@ fits_below_zero mask (suc n) = ne_eqb (suc n) 0 (λ e. omega (arith, e))
 pub fits_unsigned : (mask size : ℕ) → nat_le size mask ≡ fits false (mask + 1) (integer false size)
 unfolding fits
 fits_unsigned mask size = elim (cases_lt mask size) [
-    inl large ↦ lt-leb size mask large
+  | inl large ↦ lt-leb size mask large
       ∙ ap₂ (λ (x y : Bool). x && y) (sym (le-leb 0 size (omega arith))) (sym (le-ltb size (mask + 1) (omega arith)))
   | inr small ↦ le-leb size mask small
-      ∙ ap₂ (λ (x y : Bool). x && y) (sym (le-leb 0 size (omega arith))) (sym (lt-ltb size (mask + 1) (omega arith))) ]
+      ∙ ap₂ (λ (x y : Bool). x && y) (sym (le-leb 0 size (omega arith))) (sym (lt-ltb size (mask + 1) (omega arith)))
+]
 
 -- ---- from an operand, and back to one
 
@@ -81,9 +84,10 @@ residue_zero mask = mod-eq_of_lt (omega arith)
 
 product_parts : (a b : ℤ) (ua da ub db : ℕ) → up a ≡ ua → down a ≡ da → up b ≡ ub → down b ≡ db
     → (up (a *ℤ b) ≡ ua * ub + da * db) × (down (a *ℤ b) ≡ ua * db + da * ub)
-product_parts a b ua da ub db e f g h =
-    (let whole : up (a *ℤ b) ≡ up a * up b + down a * down b = (product_is a b).0 in cc,
-     let whole : down (a *ℤ b) ≡ up a * down b + down a * up b = (product_is a b).1 in cc)
+product_parts a b ua da ub db e f g h = (
+  let whole : up (a *ℤ b) ≡ up a * up b + down a * down b = (product_is a b).0 in cc,
+  let whole : down (a *ℤ b) ≡ up a * down b + down a * up b = (product_is a b).1 in cc,
+)
 
 pub product_by_sizes : (x y : Bool) (p q : ℕ) → integer x p *ℤ integer y q ≡ integer (not (beq x y)) (p * q)
 product_by_sizes false false p q = refl
@@ -161,7 +165,7 @@ pub dividend_is : (w : Width) (high low fh fl size : ℕ) → high < span w → 
     → fh * 2 ^ size % 2 ^ 128 + fl ≡ high * span w + low
 dividend_is w high low fh fl size h eh el es =
     let whole : high * 2 ^ size_of w % 2 ^ 128 ≡ high * 2 ^ size_of w =
-      shl_whole high (size_of w) (size_of w) 128 h (omega (arith, size_le w)) in
+    shl_whole high (size_of w) (size_of w) 128 h (omega (arith, size_le w)) in
     ap₂ (λ (x y : ℕ). x + y) (ap₂ (λ (x y : ℕ). x * 2 ^ y % 2 ^ 128) eh es ∙ whole) el
 
 pub size_pos_of : (q by fb : ℕ) → (q ≡ 0 → fb ≡ 0) → fb ≡ by → (by ≡ 0 → ⊥) → 0 < q

@@ -1,12 +1,13 @@
 -- What masks and shifts of machine words are as whole numbers.
-use Rattle.std.proofs.Common.{◌≡◌, ◌≢◌, ℕ, suc, ◌+◌, ◌-◌, ◌*◌, ◌/◌, ◌%◌, ◌^◌, ◌<◌, ◌≤◌, Bool, true, false, nat_eq, nat_le, bit_and, bit_or, w64, refl, sym, ap, subst, ◌∙◌, inl, inr, ◌⊎◌, arith, pow_pos, add-one, pow-suc, mul_comm, add_assoc, mul-le-mul_right, mod-eq_of_lt, lt_of_le_of_lt}
+use Rattle.std.proofs.Common.{◌≡◌, ◌≢◌, ℕ, suc, ◌+◌, ◌-◌, ◌*◌, ◌/◌, ◌%◌, ◌^◌, ◌<◌, ◌≤◌, Bool, true, false, nat_eq, nat_le, bit_and, bit_or, w64, refl, sym, ap, subst, ◌∙◌, inl, inr, arith, pow_pos, add-one, pow-suc, mul_comm, add_assoc, mul-le-mul_right, mod-eq_of_lt, lt_of_le_of_lt}
 use Rattle.std.specs.Int.{bit_at}
 use Rattle.std.proofs.lemmas.Nat.{and_mask, shr_split, shr_below, mod_below, shr_high, and_le_l, div-mul-add, mul-add-lt, pow-add, leading_top}
 use Rattle.std.proofs.lemmas.Nat.Bits.{same_from_bits, bit_at_set_same, bit_at_set_other, bit_at_clear_same, bit_at_clear_other, bit_at_cat_low, bit_at_cat_high, bit_at_above, bit_at-trailing_zeros}
 use Rattle.std.proofs.lemmas.Bool.{cases_order, cases_lt, cases_eq, lt-leb, le-leb}
 use Rattle.vm_law.specs.declared.insn.Width.{Width}
 use Rattle.vm_law.specs.declared.insn.Width.TheVariants.{B, W, D, Q}
-use Rattle.x86_alu.specs.Flags.{bit, with_bit}
+use Rattle.x86_alu.specs.declared.flags.Flags.{Flags}
+use Rattle.x86_alu.specs.Flags.{bit, is_set, with_bit, with_flags, AreReplaced}
 use Rattle.x86_alu.specs.BitTest.{IsLowestOne, IsHighestOne, lowest_one, highest_one}
 use Rattle.x86_alu.specs.Operand.{span, size_of, is_negative}
 
@@ -71,9 +72,10 @@ bit_put_above n i d j small h =
 
 bit_put_other : (n i d j : ℕ) → d < 2 → j ≢ i → bit_at (put n i d) j ≡ bit_at n j
 bit_put_other n i d j small apart = elim (cases_order j i) [
-    inl e ↦ absurd (apart e)
+  | inl e ↦ absurd (apart e)
   | inr (inl h) ↦ bit_put_below n i d j h
-  | inr (inr h) ↦ bit_put_above n i d j small h ]
+  | inr (inr h) ↦ bit_put_above n i d j small h
+]
 
 bit_small : (b : Bool) → bit b < 2
 bit_small true = omega arith
@@ -83,8 +85,9 @@ bit_small false = omega arith
 from_bits : (n i d r : ℕ) → d < 2 → bit_at r i ≡ d → ((j : ℕ) → j ≢ i → bit_at r j ≡ bit_at n j) → r ≡ put n i d
 from_bits n i d r small here others = same_from_bits r (put n i d) (λ j.
     elim (cases_eq j i) [
-        inl e ↦ subst (λ (x : ℕ). bit_at r x ≡ bit_at (put n i d) x) (sym e) (here ∙ sym (bit_put_same n i d small))
-      | inr apart ↦ others j apart ∙ sym (bit_put_other n i d j small apart) ])
+      | inl e ↦ subst (λ (x : ℕ). bit_at r x ≡ bit_at (put n i d) x) (sym e) (here ∙ sym (bit_put_same n i d small))
+      | inr apart ↦ others j apart ∙ sym (bit_put_other n i d j small apart)
+    ])
 
 pub set_is : (n k : ℕ) → k < 64 → bit_or n (1 * 2 ^ k % 2 ^ 64) ≡ with_bit n k true
 unfolding with_bit
@@ -93,10 +96,11 @@ set_is n k within = from_bits n k 1 (bit_or n (1 * 2 ^ k % 2 ^ 64)) (omega arith
 
 cleared_other : (n k j : ℕ) → n < 2 ^ 64 → k < 64 → j ≢ k → bit_at (bit_and n (2 ^ 64 - 1 - 1 * 2 ^ k % 2 ^ 64)) j ≡ bit_at n j
 cleared_other n k j fits within apart = elim (cases_lt j 64) [
-    inl h ↦ bit_at_clear_other w64 n k within j h apart
+  | inl h ↦ bit_at_clear_other w64 n k within j h apart
   | inr past ↦
       let small : bit_and n (2 ^ 64 - 1 - 1 * 2 ^ k % 2 ^ 64) < 2 ^ 64 = lt_of_le_of_lt (and_le_l n (2 ^ 64 - 1 - 1 * 2 ^ k % 2 ^ 64)) fits in
-      bit_at_above _ 64 j small past ∙ sym (bit_at_above n 64 j fits past) ]
+      bit_at_above _ 64 j small past ∙ sym (bit_at_above n 64 j fits past)
+]
 
 pub clear_is : (n k : ℕ) → n < 2 ^ 64 → k < 64 → bit_and n (2 ^ 64 - 1 - 1 * 2 ^ k % 2 ^ 64) ≡ with_bit n k false
 unfolding with_bit
@@ -108,11 +112,11 @@ unfolding with_bit
 with_bit_fits s n i b within h =
     let e : s ≡ s - (i + 1) + (i + 1) = omega arith in
     let whole : 2 ^ s ≡ 2 ^ (i + 1) * 2 ^ (s - (i + 1)) =
-      ap (λ (x : ℕ). 2 ^ x) e ∙ pow-add 2 (s - (i + 1)) (i + 1) ∙ mul_comm (2 ^ (s - (i + 1))) (2 ^ (i + 1)) in
+    ap (λ (x : ℕ). 2 ^ x) e ∙ pow-add 2 (s - (i + 1)) (i + 1) ∙ mul_comm (2 ^ (s - (i + 1))) (2 ^ (i + 1)) in
     let above : n / 2 ^ (i + 1) < 2 ^ (s - (i + 1)) = shr_below n (s - (i + 1)) (i + 1) (subst (λ (x : ℕ). n < 2 ^ x) e h) in
     subst (λ (x : ℕ). x < 2 ^ s) (sym (put_grouped n i (bit b)))
-      (subst (λ (x : ℕ). n / 2 ^ (i + 1) * 2 ^ (i + 1) + (bit b * 2 ^ i + n % 2 ^ i) < x) (sym whole)
-        (mul-add-lt (n / 2 ^ (i + 1)) (2 ^ (i + 1)) (bit b * 2 ^ i + n % 2 ^ i) (2 ^ (s - (i + 1))) above (low_part n i (bit b) (bit_small b))))
+    (subst (λ (x : ℕ). n / 2 ^ (i + 1) * 2 ^ (i + 1) + (bit b * 2 ^ i + n % 2 ^ i) < x) (sym whole)
+    (mul-add-lt (n / 2 ^ (i + 1)) (2 ^ (i + 1)) (bit b * 2 ^ i + n % 2 ^ i) (2 ^ (s - (i + 1))) above (low_part n i (bit b) (bit_small b))))
 
 -- ---- quotients 0 and 1
 
@@ -133,8 +137,9 @@ lowest_is n some h =
 
 highest_at : (n j : ℕ) → 2 ^ j ≤ n → n < 2 ^ suc j → IsHighestOne n j
 highest_at n j low high = record {
-    one = ap (λ (x : ℕ). x % 2) (div_one n (2 ^ j) (pow_pos j) low (omega (arith, high, pow-suc 2 j)));
-    zeros = λ i h. bit_at_above n (suc j) i high (omega arith) }
+  one = ap (λ (x : ℕ). x % 2) (div_one n (2 ^ j) (pow_pos j) low (omega (arith, high, pow-suc 2 j)));
+  zeros = λ i h. bit_at_above n (suc j) i high (omega arith);
+}
 
 pub highest_is : (n : ℕ) → 0 < n → n < 2 ^ 64 → IsHighestOne n (highest_one n)
 highest_is n some h =
@@ -147,12 +152,13 @@ highest_is n some h =
 -- an operand of two halves h is in the upper one
 top_of : (a h : ℕ) → 0 < h → a < 2 * h → nat_eq (a / h) 1 ≡ nat_le h a
 top_of a h some fits = elim (cases_lt a h) [
-    inl low ↦
+  | inl low ↦
       let none : a / h ≡ 0 = below_one a h low in
       ap (λ (x : ℕ). nat_eq x 1) none ∙ sym (lt-leb h a low)
   | inr high ↦
       let one : a / h ≡ 1 = div_one a h some high fits in
-      ap (λ (x : ℕ). nat_eq x 1) one ∙ sym (le-leb h a high) ]
+      ap (λ (x : ℕ). nat_eq x 1) one ∙ sym (le-leb h a high)
+]
 
 pub whole_is : (s : ℕ) → 0 < s → 2 ^ s ≡ 2 * 2 ^ (s - 1)
 whole_is s h =
@@ -184,3 +190,39 @@ indexed_fits w a b z size r on ez es er h =
     let same : z ≡ size_of w = ez ∙ es in
     let within : b % z < size_of w = subst (λ (x : ℕ). b % z < x) same (mod_below b z (subst (λ (x : ℕ). 0 < x) (sym same) (size_pos w))) in
     subst (λ (x : ℕ). x < span w) (sym er) (with_bit_fits (size_of w) a (b % z) on within h)
+
+-- ---- the six flags
+
+test_bit : (b : Bool) → nat_eq (bit b) 1 ≡ b
+test_bit true = refl
+test_bit false = refl
+
+set_same : (n i : ℕ) (b : Bool) → is_set (with_bit n i b) i ≡ b
+unfolding is_set with_bit
+set_same n i b = ap (λ (x : ℕ). nat_eq x 1) (bit_put_same n i (bit b) (bit_small b)) ∙ test_bit b
+
+set_other : (n i j : ℕ) (b : Bool) → j ≢ i → is_set (with_bit n i b) j ≡ is_set n j
+unfolding is_set with_bit
+set_other n i j b apart = ap (λ (x : ℕ). nat_eq x 1) (bit_put_other n i (bit b) j (bit_small b) apart)
+
+pub replaced : (n : ℕ) (f : Flags) → AreReplaced n (with_flags n f) f
+unfolding with_flags
+replaced n f =
+    let a = with_bit n 0 f.cf in
+    let b = with_bit a 2 f.pf in
+    let c = with_bit b 4 f.af in
+    let d = with_bit c 6 f.zf in
+    let e = with_bit d 7 f.sf in
+    record {
+      cf = set_other e 11 0 f.of (λ x. omega (arith, x)) ∙ set_other d 7 0 f.sf (λ x. omega (arith, x)) ∙ set_other c 6 0 f.zf (λ x. omega (arith, x))
+          ∙ set_other b 4 0 f.af (λ x. omega (arith, x)) ∙ set_other a 2 0 f.pf (λ x. omega (arith, x)) ∙ set_same n 0 f.cf;
+      pf = set_other e 11 2 f.of (λ x. omega (arith, x)) ∙ set_other d 7 2 f.sf (λ x. omega (arith, x)) ∙ set_other c 6 2 f.zf (λ x. omega (arith, x))
+          ∙ set_other b 4 2 f.af (λ x. omega (arith, x)) ∙ set_same a 2 f.pf;
+      af = set_other e 11 4 f.of (λ x. omega (arith, x)) ∙ set_other d 7 4 f.sf (λ x. omega (arith, x)) ∙ set_other c 6 4 f.zf (λ x. omega (arith, x))
+          ∙ set_same b 4 f.af;
+      zf = set_other e 11 6 f.of (λ x. omega (arith, x)) ∙ set_other d 7 6 f.sf (λ x. omega (arith, x)) ∙ set_same c 6 f.zf;
+      sf = set_other e 11 7 f.of (λ x. omega (arith, x)) ∙ set_same d 7 f.sf;
+      of = set_same e 11 f.of;
+      others = λ i h0 h2 h4 h6 h7 h11. set_other e 11 i f.of h11 ∙ set_other d 7 i f.sf h7 ∙ set_other c 6 i f.zf h6
+          ∙ set_other b 4 i f.af h4 ∙ set_other a 2 i f.pf h2 ∙ set_other n 0 i f.cf h0;
+    }

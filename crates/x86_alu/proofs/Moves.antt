@@ -1,11 +1,10 @@
 -- Shifts and rotates of machine words as whole numbers.
-use Rattle.std.proofs.Common.{◌≡◌, ℕ, zero, suc, ◌+◌, ◌-◌, ◌*◌, ◌/◌, ◌%◌, ◌^◌, ◌<◌, ◌≤◌, Bool, true, false, not, cond, ℤ, pos, negsuc, ◌-ℤ◌, neg_ℤ, refl, sym, ap, subst, ◌∙◌, inl, inr, ◌⊎◌, arith, pow_pos, mod-eq_of_lt, mul-lt-mul_of_pos_right, div-add-mod', mul_comm, div-le_self, lt_of_le_of_lt, pow_mono}
+use Rattle.std.proofs.Common.{◌≡◌, ℕ, ◌+◌, ◌-◌, ◌*◌, ◌/◌, ◌%◌, ◌^◌, ◌<◌, ◌≤◌, true, false, ℤ, pos, negsuc, ◌-ℤ◌, neg_ℤ, refl, sym, ap, subst, ◌∙◌, arith, pow_pos, mod-eq_of_lt, mul-lt-mul_of_pos_right, div-add-mod', mul_comm, div-le_self, lt_of_le_of_lt, pow_mono}
 use Rattle.std.proofs.lemmas.Nat.{mod_below, mod-mul-add, mul-add-lt, div_below, pow-add}
-use borrow.Author.Differences.{up, down, same_in, sum_is_lem, neg_is}
-use mathlib.Core.Bool.{beq}
+use borrow.Author.Differences.{same_in, sum_is_lem, neg_is}
 use Rattle.vm_law.specs.declared.insn.Width.{Width}
 use Rattle.x86_alu.specs.Operand.{span, size_of, is_negative, signed, residue, floored}
-use Rattle.x86_alu.specs.Shift.{differ, rol_of, ror_of, sar_of}
+use Rattle.x86_alu.specs.Shift.{rol_of, ror_of}
 use Rattle.x86_alu.proofs.Masks.{size_pos, size_le, whole_is}
 
 -- ---- rotates: of an operand below q * p, the top digits in base q, or p, go round
@@ -36,15 +35,15 @@ rol_fits s a n some h =
     let within : n % s ≤ s = omega (arith, mod_below n s some) in
     let e : 2 ^ s ≡ 2 ^ (s - n % s) * 2 ^ (n % s) = parts_of s (n % s) within in
     subst (λ (x : ℕ). a * 2 ^ (n % s) % x + a / 2 ^ (s - n % s) < x) (sym e)
-        (turned_fits a (2 ^ (n % s)) (2 ^ (s - n % s)) (pow_pos (n % s)) (pow_pos (s - n % s)) (subst (λ (x : ℕ). a < x) e h))
+    (turned_fits a (2 ^ (n % s)) (2 ^ (s - n % s)) (pow_pos (n % s)) (pow_pos (s - n % s)) (subst (λ (x : ℕ). a < x) e h))
 
 pub ror_fits : (s a n : ℕ) → 0 < s → a < 2 ^ s → ror_of s a n < 2 ^ s
 ror_fits s a n some h =
     let within : n % s ≤ s = omega (arith, mod_below n s some) in
     let e : 2 ^ s ≡ 2 ^ (n % s) * 2 ^ (s - n % s) = parts_of s (n % s) within ∙ mul_comm (2 ^ (s - n % s)) (2 ^ (n % s)) in
     let sum : a * 2 ^ (s - n % s) % 2 ^ s + a / 2 ^ (n % s) < 2 ^ s =
-      subst (λ (x : ℕ). a * 2 ^ (s - n % s) % x + a / 2 ^ (n % s) < x) (sym e)
-        (turned_fits a (2 ^ (s - n % s)) (2 ^ (n % s)) (pow_pos (s - n % s)) (pow_pos (n % s)) (subst (λ (x : ℕ). a < x) e h)) in
+    subst (λ (x : ℕ). a * 2 ^ (s - n % s) % x + a / 2 ^ (n % s) < x) (sym e)
+    (turned_fits a (2 ^ (s - n % s)) (2 ^ (n % s)) (pow_pos (s - n % s)) (pow_pos (n % s)) (subst (λ (x : ℕ). a < x) e h)) in
     omega arith
 
 -- ---- the shift that keeps the sign
@@ -70,7 +69,6 @@ unfolding residue floored
 sar_low m a d e h =
     ap (λ (z : ℤ). residue m (floored z d)) (signed_low m a e)
     ∙ mod-eq_of_lt (lt_of_le_of_lt (div-le_self a d) h)
-
 
 low_of : (n m h : ℕ) → m ≡ 2 * h → n % m % 2 ≡ n % 2
 low_of n m h e =

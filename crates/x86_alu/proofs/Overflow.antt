@@ -73,26 +73,29 @@ fits_not_high m z high =
 fits_if_low : (m r : ℕ) (z : ℤ) → up z ≡ down z + r → fits_signed m z ≡ not (is_negative m r)
 unfolding is_negative
 fits_if_low m r z e = elim (cases_lt r (m / 2)) [
-    inl small ↦ fits_yes m z (omega arith) (omega arith) ∙ ap not (sym (lt-leb (m / 2) r small))
-  | inr large ↦ fits_not_high m z (omega arith) ∙ ap not (sym (le-leb (m / 2) r large)) ]
+  | inl small ↦ fits_yes m z (omega arith) (omega arith) ∙ ap not (sym (lt-leb (m / 2) r small))
+  | inr large ↦ fits_not_high m z (omega arith) ∙ ap not (sym (le-leb (m / 2) r large))
+]
 
 -- z is r - m, and is negative
 fits_if_high : (m r : ℕ) (z : ℤ) → m ≡ 2 * (m / 2) → r < m → up z + m ≡ down z + r → fits_signed m z ≡ is_negative m r
 unfolding is_negative
 fits_if_high m r z even fits e = elim (cases_lt r (m / 2)) [
-    inl small ↦ fits_not_low m z (omega arith) ∙ sym (lt-leb (m / 2) r small)
-  | inr large ↦ fits_yes m z (omega arith) (omega arith) ∙ sym (le-leb (m / 2) r large) ]
+  | inl small ↦ fits_not_low m z (omega arith) ∙ sym (lt-leb (m / 2) r small)
+  | inr large ↦ fits_yes m z (omega arith) (omega arith) ∙ sym (le-leb (m / 2) r large)
+]
 
 -- ---- sums
 
 modulo : (x m : ℕ) → x < 2 * m → ((x < m) × (x % m ≡ x)) ⊎ ((m ≤ x) × (x % m + m ≡ x))
 modulo x m h = elim (cases_lt x m) [
-    inl small ↦ inl (small, mod-eq_of_lt small)
+  | inl small ↦ inl (small, mod-eq_of_lt small)
   | inr large ↦
       let less : x - m < m = omega arith in
       let e : x ≡ 1 * m + (x - m) = omega arith in
       let r : x % m ≡ x - m = ap (λ (y : ℕ). y % m) e ∙ mod-mul-add 1 m (x - m) less in
-      inr (large, omega arith) ]
+      inr (large, omega arith)
+]
 
 sum_parts : (x y : ℤ) (c : ℕ) → up (x +ℤ y +ℤ pos c) + down x + down y ≡ down (x +ℤ y +ℤ pos c) + up x + up y + c
 sum_parts x y c = omega (arith, sum_is_lem (x +ℤ y) (pos c), sum_is_lem x y)
@@ -110,16 +113,18 @@ pub same_sum : (m a b c : ℕ) (x y : ℤ) (na nb : Bool) → m ≡ 2 * (m / 2) 
     → fits_signed m (x +ℤ y +ℤ pos c) ≡ beq (is_negative m ((a + b + c) % m)) na
 same_sum m a b c x y na nb even fa fb fc (inl ra) (inl rb) e =
     agree m ((a + b + c) % m) (x +ℤ y +ℤ pos c) na even (mod_below (a + b + c) m (omega arith))
-        (elim (modulo (a + b + c) m (omega arith)) [
-            inl r ↦ absurd (omega arith)
-          | inr r ↦ inl (ra.0, omega (arith, sum_parts x y c)) ])
+    (elim (modulo (a + b + c) m (omega arith)) [
+      | inl r ↦ absurd (omega arith)
+      | inr r ↦ inl (ra.0, omega (arith, sum_parts x y c))
+    ])
 same_sum m a b c x y na nb even fa fb fc (inl ra) (inr rb) e = absurd (clash na nb ra.0 rb.0 e)
 same_sum m a b c x y na nb even fa fb fc (inr ra) (inl rb) e = absurd (clash' na nb ra.0 rb.0 e)
 same_sum m a b c x y na nb even fa fb fc (inr ra) (inr rb) e =
     agree m ((a + b + c) % m) (x +ℤ y +ℤ pos c) na even (mod_below (a + b + c) m (omega arith))
-        (elim (modulo (a + b + c) m (omega arith)) [
-            inl r ↦ inr (ra.0, omega (arith, sum_parts x y c))
-          | inr r ↦ absurd (omega arith) ])
+    (elim (modulo (a + b + c) m (omega arith)) [
+      | inl r ↦ inr (ra.0, omega (arith, sum_parts x y c))
+      | inr r ↦ absurd (omega arith)
+    ])
 
 -- the operands have two signs: the sum fits
 pub mixed_sum : (m a b c : ℕ) (x y : ℤ) (na nb : Bool) → m ≡ 2 * (m / 2) → a < m → b < m → c ≤ 1
@@ -144,14 +149,16 @@ pub mixed_difference : (m a b c : ℕ) (x y : ℤ) (na nb : Bool) → m ≡ 2 * 
     → fits_signed m (x -ℤ y -ℤ pos c) ≡ beq (is_negative m ((m + a - (b + c)) % m)) na
 mixed_difference m a b c x y na nb even fa fb fc (inl ra) (inr rb) e =
     agree m ((m + a - (b + c)) % m) (x -ℤ y -ℤ pos c) na even (mod_below (m + a - (b + c)) m (omega arith))
-        (elim (modulo (m + a - (b + c)) m (omega arith)) [
-            inl r ↦ absurd (omega arith)
-          | inr r ↦ inl (ra.0, omega (arith, difference_parts x y c)) ])
+    (elim (modulo (m + a - (b + c)) m (omega arith)) [
+      | inl r ↦ absurd (omega arith)
+      | inr r ↦ inl (ra.0, omega (arith, difference_parts x y c))
+    ])
 mixed_difference m a b c x y na nb even fa fb fc (inr ra) (inl rb) e =
     agree m ((m + a - (b + c)) % m) (x -ℤ y -ℤ pos c) na even (mod_below (m + a - (b + c)) m (omega arith))
-        (elim (modulo (m + a - (b + c)) m (omega arith)) [
-            inl r ↦ inr (ra.0, omega (arith, difference_parts x y c))
-          | inr r ↦ absurd (omega arith) ])
+    (elim (modulo (m + a - (b + c)) m (omega arith)) [
+      | inl r ↦ inr (ra.0, omega (arith, difference_parts x y c))
+      | inr r ↦ absurd (omega arith)
+    ])
 mixed_difference m a b c x y na nb even fa fb fc (inl ra) (inl rb) e = absurd (same na nb true ra.0 rb.0 e)
 mixed_difference m a b c x y na nb even fa fb fc (inr ra) (inr rb) e = absurd (same na nb false ra.0 rb.0 e)
 

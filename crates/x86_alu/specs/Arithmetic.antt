@@ -1,6 +1,6 @@
 -- Sums, differences and bitwise operations. m is the number of values of an operand.
 -- Source: Intel SDM volume 2, the pages of ADD, ADC, SUB, SBB, CMP, NEG, INC, DEC, AND, OR, XOR, TEST, NOT.
-use Rattle.std.specs.Prelude.{ℕ, ◌+◌, ◌-◌, ◌%◌, pos, ◌+ℤ◌, ◌-ℤ◌, Bool, true, false, not, nat_lt, nat_le, bit_and, bit_or, bit_xor}
+use Rattle.std.specs.Prelude.{ℕ, ◌+◌, ◌-◌, ◌%◌, pos, ◌+ℤ◌, ◌-ℤ◌, Bool, not, nat_lt, nat_le, bit_and, bit_or, bit_xor}
 use Rattle.x86_alu.specs.declared.flags.Flags.{Flags}
 use Rattle.x86_alu.specs.declared.op.AluOp.{AluOp}
 use Rattle.x86_alu.specs.declared.op.AluOp.TheVariants as op
@@ -14,9 +14,10 @@ sum_of m a b c = (a + b + c) % m
 -- CF: the sum doesn't fit. AF: the sum of the low digits, of four bits each, doesn't fit. OF: the signed sum doesn't fit.
 unfoldable pub added : ℕ → ℕ → ℕ → ℕ → Flags
 added m a b c = record (of_result m (sum_of m a b c)) {
-    cf = nat_le m (a + b + c);
-    af = nat_le 16 (a % 16 + b % 16 + c);
-    of = not (fits_signed m (signed m a +ℤ signed m b +ℤ pos c)) }
+  cf = nat_le m (a + b + c);
+  af = nat_le 16 (a % 16 + b % 16 + c);
+  of = not (fits_signed m (signed m a +ℤ signed m b +ℤ pos c));
+}
 
 -- a - b - c
 abbrev pub difference_of : ℕ → ℕ → ℕ → ℕ → ℕ
@@ -25,9 +26,10 @@ difference_of m a b c = (m + a - (b + c)) % m
 -- CF: the difference is below 0, so it borrows. AF: that of the low digits is. OF: the signed difference doesn't fit.
 unfoldable pub subtracted : ℕ → ℕ → ℕ → ℕ → Flags
 subtracted m a b c = record (of_result m (difference_of m a b c)) {
-    cf = nat_lt a (b + c);
-    af = nat_lt (a % 16) (b % 16 + c);
-    of = not (fits_signed m (signed m a -ℤ signed m b -ℤ pos c)) }
+  cf = nat_lt a (b + c);
+  af = nat_lt (a % 16) (b % 16 + c);
+  of = not (fits_signed m (signed m a -ℤ signed m b -ℤ pos c));
+}
 
 -- the result of an operation, c being the carry flag before it
 unfoldable pub alu_result : AluOp → ℕ → ℕ → ℕ → Bool → ℕ

@@ -1,8 +1,7 @@
 -- Tests and scans of bits. s is the number of bits of an operand.
 -- Source: Intel SDM volume 2, the pages of BT, BTS, BTR, BTC, BSF, BSR.
-use Rattle.std.specs.Prelude.{◌≡◌, ℕ, ◌-◌, ◌%◌, ◌<◌, Bool, true, false, not, ◌==◌, if◌then◌else◌}
+use Rattle.std.specs.Prelude.{◌≡◌, ℕ, ◌-◌, ◌%◌, ◌<◌, true, false, not, ◌==◌, if◌then◌else◌}
 use Rattle.std.specs.Int.{bit_at, w64, trailing_zeros, leading_zeros}
-use Rattle.x86_alu.specs.declared.flags.Flags.{Flags}
 use Rattle.x86_alu.specs.declared.op.BitOp.{BitOp}
 use Rattle.x86_alu.specs.declared.op.BitOp.TheVariants as op
 use Rattle.x86_alu.specs.Flags.{is_set, with_bit, with_flags, zero_of}

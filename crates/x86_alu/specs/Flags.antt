@@ -1,5 +1,5 @@
 -- The six status flags. Source: Intel SDM volume 1, section 3.4.3.1.
-use Rattle.std.specs.Prelude.{ℕ, ◌+◌, ◌*◌, ◌/◌, ◌%◌, ◌^◌, Bool, true, false, ◌==◌, count_ones}
+use Rattle.std.specs.Prelude.{◌≡◌, ◌≢◌, ℕ, ◌+◌, ◌*◌, ◌/◌, ◌%◌, ◌^◌, Bool, true, false, ◌==◌, count_ones}
 use Rattle.std.specs.Int.{bit_at}
 use Rattle.x86_alu.specs.declared.flags.Flags.{Flags}
 use Rattle.x86_alu.specs.Operand.{is_negative}
@@ -21,6 +21,16 @@ with_bit n i b = n / 2 ^ (i + 1) * 2 ^ (i + 1) + bit b * 2 ^ i + n % 2 ^ i
 unfoldable pub with_flags : ℕ → Flags → ℕ
 with_flags n f =
     with_bit (with_bit (with_bit (with_bit (with_bit (with_bit n 0 f.cf) 2 f.pf) 4 f.af) 6 f.zf) 7 f.sf) 11 f.of
+
+-- what that means: the six flags are these, and every other bit stays
+pub record AreReplaced (old new : ℕ) (f : Flags) : Type 0 where
+  pub cf : is_set new 0 ≡ f.cf
+  pub pf : is_set new 2 ≡ f.pf
+  pub af : is_set new 4 ≡ f.af
+  pub zf : is_set new 6 ≡ f.zf
+  pub sf : is_set new 7 ≡ f.sf
+  pub of : is_set new 11 ≡ f.of
+  pub others : (i : ℕ) → i ≢ 0 → i ≢ 2 → i ≢ 4 → i ≢ 6 → i ≢ 7 → i ≢ 11 → is_set new i ≡ is_set old i
 
 -- RFLAGS with CF and OF replaced
 unfoldable pub with_carry_overflow : ℕ → Bool → Bool → ℕ

@@ -1,6 +1,6 @@
 -- Operands of 8, 16, 32 and 64 bits as whole numbers.
 -- Source: Intel SDM volume 1, sections 4.1 and 4.2.1: unsigned integers, and signed ones in two's complement.
-use Rattle.std.specs.Prelude.{ℕ, ◌+◌, ◌-◌, ◌/◌, ◌%◌, ◌^◌, ℤ, pos, negsuc, ◌-ℤ◌, neg_ℤ, Bool, ◌&&◌, nat_le, int_le, int_lt, if◌then◌else◌}
+use Rattle.std.specs.Prelude.{ℕ, ◌-◌, ◌/◌, ◌%◌, ◌^◌, ℤ, pos, negsuc, ◌-ℤ◌, neg_ℤ, Bool, ◌&&◌, nat_le, int_le, int_lt, if◌then◌else◌}
 use Rattle.vm_law.specs.declared.insn.Width.{Width}
 use Rattle.vm_law.specs.declared.insn.Width.TheVariants.{B, W, D, Q}
 

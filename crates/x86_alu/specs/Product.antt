@@ -1,7 +1,6 @@
 -- Products of two operands, and quotients of a double operand. m is the number of values of an operand.
 -- Source: Intel SDM volume 2, the pages of MUL, IMUL, DIV, IDIV.
-use Rattle.std.specs.Prelude.{ℕ, ◌+◌, ◌*◌, ◌/◌, ◌%◌, ℤ, pos, ◌*ℤ◌, neg_ℤ, int_div, int_rem, int_le, int_lt, Bool, true, false, not, ◌&&◌, ◌||◌, ◌==◌}
-use Rattle.x86_alu.specs.declared.flags.Flags.{Flags}
+use Rattle.std.specs.Prelude.{ℕ, ◌+◌, ◌*◌, ℤ, pos, ◌*ℤ◌, neg_ℤ, int_div, int_rem, int_le, int_lt, Bool, true, false, not, ◌&&◌, ◌||◌, ◌==◌}
 use Rattle.x86_alu.specs.Operand.{signed, fits_signed, residue}
 use Rattle.x86_alu.specs.Flags.{with_flags}
 

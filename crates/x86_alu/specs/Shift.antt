@@ -62,8 +62,9 @@ ror_flags s r n old = with_carry_overflow old (is_negative (2 ^ s) r) (n == 1 &&
 -- top bit of the result differs from CF, SHR where the operand was negative, SAR never.
 unfoldable pub shl_flags : ℕ → ℕ → ℕ → ℕ → Flags
 shl_flags s a r n = record (of_result (2 ^ s) r) {
-    cf = shl_carry s a n;
-    of = n == 1 && differ (is_negative (2 ^ s) r) (shl_carry s a n) }
+  cf = shl_carry s a n;
+  of = n == 1 && differ (is_negative (2 ^ s) r) (shl_carry s a n);
+}
 
 unfoldable pub shr_flags : ℕ → ℕ → ℕ → ℕ → Flags
 shr_flags s a r n = record (of_result (2 ^ s) r) { cf = shr_carry s a n; of = n == 1 && is_negative (2 ^ s) a }

@@ -59,7 +59,10 @@ fn subtracted(width: Width, a: u64, b: u64, borrow: bool) -> (u64, Flags)
     ensures flags { result.1 ≡ subtracted (span width) a b (bit borrow) }
 {
     let taken = u128::from(b) + u128::from(borrow);
-    let difference = truncated(width, u128::from(mask_of(width)) + 1 + u128::from(a) - taken);
+    let difference = truncated(
+        width,
+        u128::from(mask_of(width)) + 1 + u128::from(a) - taken,
+    );
     let digit = (b & 15) + u64::from(borrow);
     let flags = Flags {
         cf: u128::from(a) < taken,
@@ -84,7 +87,13 @@ fn keeping_carry(carry: bool, answer: (u64, Flags)) -> (u64, Flags)
     ensures word { result.0 ≡ answer.0 }
     ensures flags { result.1 ≡ record answer.1 { cf = carry } }
 {
-    (answer.0, Flags { cf: carry, ..answer.1 })
+    (
+        answer.0,
+        Flags {
+            cf: carry,
+            ..answer.1
+        },
+    )
 }
 
 // An answer with its flags written into RFLAGS.

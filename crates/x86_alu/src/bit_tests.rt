@@ -81,7 +81,10 @@ pub fn bits(op: BitOp, width: Width, a: u64, b: u64, flags: u64) -> (u64, u64)
         BitOp::Bt => (a, tested(width, a, b, flags)),
         BitOp::Bts => (with_bit(a, place, true), tested(width, a, b, flags)),
         BitOp::Btr => (with_bit(a, place, false), tested(width, a, b, flags)),
-        BitOp::Btc => (with_bit(a, place, !is_set(a, place)), tested(width, a, b, flags)),
+        BitOp::Btc => (
+            with_bit(a, place, !is_set(a, place)),
+            tested(width, a, b, flags),
+        ),
         BitOp::Bsf => (scan_forward(a, b), scanned(b, flags)),
         BitOp::Bsr => (scan_reverse(a, b), scanned(b, flags)),
     }

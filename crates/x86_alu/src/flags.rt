@@ -1,5 +1,5 @@
 ghost use Rattle.std.specs.Prelude.{◌≡◌, ◌^◌, ◌<◌};
-ghost use Rattle.x86_alu.specs.Flags.{bit, is_set, with_bit, with_flags, with_carry_overflow, is_parity_even, of_result};
+ghost use Rattle.x86_alu.specs.Flags.{AreReplaced, is_set, with_bit, with_flags, with_carry_overflow, is_parity_even, of_result};
 ghost use Rattle.x86_alu.specs.Operand.{span};
 
 use crate::operand::is_negative;
@@ -34,10 +34,15 @@ pub(crate) const CLEAR: Flags = Flags {
 
 // Their places in RFLAGS.
 pub(crate) const CF: u32 = 0;
+
 const PF: u32 = 2;
+
 const AF: u32 = 4;
+
 pub(crate) const ZF: u32 = 6;
+
 const SF: u32 = 7;
+
 const OF: u32 = 11;
 
 /// Whether bit `place` of a word is 1.
@@ -97,3 +102,9 @@ pub(crate) fn of_result(width: Width, word: u64) -> Flags
         ..CLEAR
     }
 }
+
+/// The law of [`Flags`] in RFLAGS: each of the six flags is the one that is written, and every other bit stays.
+/// Source: Intel SDM volume 1, section 3.4.3.
+pub fn only_these_change(rflags: u64, flags: Flags)
+    ensures { AreReplaced rflags (with_flags rflags flags) flags }
+{}

@@ -83,7 +83,14 @@ pub fn mul(signed: bool, width: Width, a: u64, b: u64, flags: u64) -> (u64, u64,
     (
         truncated(width, product),
         truncated(width, product >> size_of(width)),
-        with_flags(flags, Flags { cf: over, of: over, ..CLEAR }),
+        with_flags(
+            flags,
+            Flags {
+                cf: over,
+                of: over,
+                ..CLEAR
+            },
+        ),
     )
 }
 
@@ -92,7 +99,14 @@ pub fn mul(signed: bool, width: Width, a: u64, b: u64, flags: u64) -> (u64, u64,
 ///
 /// With `signed` it is IDIV, else DIV. The quotient is rounded toward zero, and the remainder has the dividend's sign.
 /// All six flags, which the processor leaves undefined, are clear. Source: Intel SDM volume 2, DIV and IDIV.
-pub fn div(signed: bool, width: Width, high: u64, low: u64, by: u64, flags: u64) -> Option<(u64, u64, u64)>
+pub fn div(
+    signed: bool,
+    width: Width,
+    high: u64,
+    low: u64,
+    by: u64,
+    flags: u64,
+) -> Option<(u64, u64, u64)>
     requires high_fits { high < span width }
     requires low_fits { low < span width }
     requires by_fits { by < span width }

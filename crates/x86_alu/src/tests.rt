@@ -3,7 +3,7 @@ ghost use Rattle.x86_alu.specs.Operand.{span};
 
 use crate::cases::{ALU, BITS, PRODUCTS, QUOTIENTS, SHIFTS};
 use crate::operand::mask_of;
-use crate::{alu, bits, div, mul, shift};
+use crate::{Flags, alu, bits, div, mul, only_these_change, shift};
 use vm_law::Width;
 
 // Every bit of RFLAGS but the six status flags: no call reads or changes one of them.
@@ -58,12 +58,18 @@ fn products_as_a_processor_has_them(rt: HostRuntime) {
 
 #[test]
 fn quotients_as_a_processor_has_them(rt: HostRuntime) {
-    for (row, &(signed, width, high, low, by, flags, some, quotient, remainder)) in QUOTIENTS.iter().enumerate() {
+    for (row, &(signed, width, high, low, by, flags, some, quotient, remainder)) in QUOTIENTS
+        .iter()
+        .enumerate()
+    {
         let mask = mask_of(width);
         assert!(rt; high <= mask && low <= mask && by <= mask);
         match div(signed, width, high, low, by, flags | OTHERS) {
             Some(answer) => {
-                assert!(rt; some && answer.0 == quotient && answer.1 == remainder, "row {row}");
+                assert!(rt;
+                    some && answer.0 == quotient && answer.1 == remainder,
+                    "row {row}"
+                );
                 assert!(rt; answer.2 == OTHERS, "row {row}");
             }
             None => assert!(rt; !some, "row {row}"),
@@ -86,4 +92,19 @@ fn bit_tests_as_a_processor_does_them(rt: HostRuntime) {
             }
         }
     }
+}
+
+#[test]
+fn the_law_of_the_flags_is_a_call() {
+    only_these_change(
+        OTHERS,
+        Flags {
+            cf: true,
+            pf: false,
+            af: true,
+            zf: false,
+            sf: true,
+            of: false,
+        },
+    );
 }

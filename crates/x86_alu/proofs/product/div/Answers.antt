@@ -1,7 +1,6 @@
-use Rattle.std.proofs.Common.{◌≡◌, ◌+◌, ◌*◌, ◌/◌, ◌%◌, ◌^◌, ◌<◌, ℕ, Bool, not, ◌||◌, true, false, ap, ap₂, sym, subst, ◌∙◌, arith, nat_eq, eq-eqb, ne_eqb}
-use Rattle.std.proofs.lemmas.Bool.{not-true, not-false}
+use Rattle.std.proofs.Common.{◌≡◌, ◌+◌, ◌*◌, ◌/◌, ◌%◌, ◌^◌, Bool, not, ◌||◌, ap, ap₂, sym, ◌∙◌, arith, eq-eqb}
 use mathlib.Core.Bool.{beq}
-use Rattle.x86_alu.specs.Operand.{span, size_of, residue}
+use Rattle.x86_alu.specs.Operand.{span, residue}
 use Rattle.x86_alu.specs.Product.{integer, fits, quotient_of, remainder_of, div_faults, div_flags}
 use Rattle.x86_alu.proofs.Integers.{quotient_from, remainder_from, dividend_is, faults_from, size_pos_of}
 use Rattle.x86_alu.proofs.product.div.Goals as goal
@@ -11,7 +10,7 @@ pub returns-then-by-eq0-clause-faults : goal.returns-then-by-eq0-clause-faults
 unfolding div_faults
 returns-then-by-eq0-clause-faults c =
     sym (ap (λ (b : Bool). b || not (fits c.args.signed (span c.args.width) (quotient_of c.args.signed (span c.args.width) c.args.high c.args.low c.args.by)))
-      (eq-eqb c.args.by 0 c.if-by-eq0.true))
+    (eq-eqb c.args.by 0 c.if-by-eq0.true))
 
 pub returns-then-not-fits-clause-faults : goal.returns-then-not-fits-clause-faults
 returns-then-not-fits-clause-faults c = ap not (sym c.if-not-fits.true ∙ c.fits.ensures.fits) ∙ faults_from c.args.signed (span c.args.width) c.args.high c.args.low c.args.by c.wide_mask_of.result

@@ -1,4 +1,4 @@
-use Rattle.std.proofs.Common.{◌≡◌, ◌+◌, ℕ, Bool, true, false, ap₂, sym, ◌∙◌}
+use Rattle.std.proofs.Common.{◌+◌, Bool, ap₂, sym, ◌∙◌}
 use Rattle.x86_alu.specs.Product.{fits, integer}
 use Rattle.x86_alu.proofs.Integers.{fits_negative, fits_positive, fits_below_zero, fits_unsigned}
 use Rattle.x86_alu.proofs.product.fits.Goals as goal

@@ -1,6 +1,5 @@
-use Rattle.std.proofs.Common.{◌≡◌, ◌+◌, ◌*◌, ◌/◌, ◌%◌, ◌^◌, ◌<◌, ℕ, Bool, not, false, ap, ap₂, sym, subst, ◌∙◌, arith, pow_pos}
+use Rattle.std.proofs.Common.{◌≡◌, ◌+◌, ◌*◌, ◌/◌, ◌%◌, ◌^◌, ◌<◌, ℕ, Bool, not, false, ap, ap₂, sym, ◌∙◌, arith, pow_pos}
 use mathlib.Core.Bool.{beq}
-use Rattle.x86_alu.specs.declared.flags.Flags.{Flags}
 use Rattle.x86_alu.specs.Operand.{span, size_of, residue}
 use Rattle.x86_alu.specs.Flags.{with_flags}
 use Rattle.x86_alu.specs.Product.{integer, fits, product_of, product_bits, mul_flags}

@@ -1,4 +1,4 @@
-use Rattle.std.proofs.Common.{◌≡◌, ◌-◌, ◌/◌, ◌%◌, ◌^◌, ℕ, sym, ap, ◌∙◌, nat_eq, div-one}
+use Rattle.std.proofs.Common.{◌-◌, ◌/◌, ◌%◌, ◌^◌, ℕ, ap, ◌∙◌, nat_eq, div-one}
 use Rattle.x86_alu.specs.Operand.{size_of}
 use Rattle.x86_alu.specs.Flags.{is_set}
 use Rattle.x86_alu.specs.Shift.{sar_of, sar_carry}
