@@ -7,6 +7,7 @@ use crate::op::BitOp;
 use crate::operand::size_of;
 use vm_law::Width;
 
+// RFLAGS after a test of a bit.
 #[tactic(auto, unfolding(crate::specs::BitTest::tested))]
 fn tested(width: Width, a: u64, index: u64, flags: u64) -> u64
     ensures { result ≡ tested (size_of width) a index flags }
@@ -22,6 +23,7 @@ fn tested(width: Width, a: u64, index: u64, flags: u64) -> u64
     )
 }
 
+// RFLAGS after a scan.
 #[tactic(auto, unfolding(crate::specs::BitTest::scanned))]
 fn scanned(source: u64, flags: u64) -> u64
     ensures { result ≡ scanned source flags }

@@ -16,6 +16,7 @@ fn count_of(width: Width, count: u8) -> u32
     }
 }
 
+// SHL: what leaves at the top is lost.
 fn shl(width: Width, a: u64, n: u32) -> u64
     requires fits { a < span width }
     requires count { n ≤ 64 }
@@ -24,6 +25,7 @@ fn shl(width: Width, a: u64, n: u32) -> u64
     truncated(width, u128::from(a) << n)
 }
 
+// SAR: a negative operand is turned over, shifted, and turned back.
 fn sar(width: Width, a: u64, n: u32) -> u64
     requires fits { a < span width }
     requires count { n < 64 }
@@ -38,6 +40,7 @@ fn sar(width: Width, a: u64, n: u32) -> u64
     }
 }
 
+// ROL: what leaves at the top comes in at the bottom.
 fn rol(width: Width, a: u64, n: u32) -> u64
     requires { a < span width }
     ensures result { result ≡ rol_of (size_of width) a n }
@@ -48,6 +51,7 @@ fn rol(width: Width, a: u64, n: u32) -> u64
     shl(width, a, by) + (u128::from(a) >> (size - by)) as u64
 }
 
+// ROR: what leaves at the bottom comes in at the top.
 fn ror(width: Width, a: u64, n: u32) -> u64
     requires { a < span width }
     ensures result { result ≡ ror_of (size_of width) a n }
@@ -72,6 +76,7 @@ fn at_one(n: u32, flag: bool) -> bool
     n == 1 && flag
 }
 
+// The bit that SHL moves out last.
 #[tactic(auto, unfolding(crate::specs::Shift::shl_carry))]
 fn shl_carry(width: Width, a: u64, n: u32) -> bool
     requires { 0 < n }
@@ -81,6 +86,7 @@ fn shl_carry(width: Width, a: u64, n: u32) -> bool
     n < size && is_set(a, size - n)
 }
 
+// The bit that SHR moves out last.
 #[tactic(auto, unfolding(crate::specs::Shift::shr_carry))]
 fn shr_carry(width: Width, a: u64, n: u32) -> bool
     requires { 0 < n }
@@ -89,6 +95,7 @@ fn shr_carry(width: Width, a: u64, n: u32) -> bool
     n < size_of(width) && is_set(a, n - 1)
 }
 
+// The bit that SAR moves out last.
 fn sar_carry(width: Width, a: u64, n: u32) -> bool
     requires fits { a < span width }
     requires some { 0 < n }
@@ -98,6 +105,7 @@ fn sar_carry(width: Width, a: u64, n: u32) -> bool
     is_set(sar(width, a, n - 1), 0)
 }
 
+// RFLAGS after ROL; `word` is the operand after it.
 #[tactic(auto, unfolding(crate::specs::Shift::rol_flags))]
 fn rol_flags(width: Width, word: u64, n: u32, flags: u64) -> u64
     requires { word < span width }
@@ -108,6 +116,7 @@ fn rol_flags(width: Width, word: u64, n: u32, flags: u64) -> u64
     with_carry_overflow(flags, carry, at_one(n, turned))
 }
 
+// RFLAGS after ROR; `word` is the operand after it.
 #[tactic(auto, unfolding(crate::specs::Shift::ror_flags))]
 fn ror_flags(width: Width, word: u64, n: u32, flags: u64) -> u64
     requires { word < span width }
@@ -118,6 +127,7 @@ fn ror_flags(width: Width, word: u64, n: u32, flags: u64) -> u64
     with_carry_overflow(flags, top, at_one(n, turned))
 }
 
+// The flags of SHL; `word` is the operand after it.
 #[tactic(auto, unfolding(crate::specs::Shift::shl_flags))]
 fn shl_flags(width: Width, a: u64, word: u64, n: u32) -> Flags
     requires some { 0 < n }
@@ -133,6 +143,7 @@ fn shl_flags(width: Width, a: u64, word: u64, n: u32) -> Flags
     }
 }
 
+// The flags of SHR; `word` is the operand after it.
 #[tactic(auto, unfolding(crate::specs::Shift::shr_flags))]
 fn shr_flags(width: Width, a: u64, word: u64, n: u32) -> Flags
     requires some { 0 < n }
@@ -147,6 +158,7 @@ fn shr_flags(width: Width, a: u64, word: u64, n: u32) -> Flags
     }
 }
 
+// The flags of SAR; `word` is the operand after it.
 #[tactic(auto, unfolding(crate::specs::Shift::sar_flags))]
 fn sar_flags(width: Width, a: u64, word: u64, n: u32) -> Flags
     requires some { 0 < n }
@@ -161,6 +173,7 @@ fn sar_flags(width: Width, a: u64, word: u64, n: u32) -> Flags
     }
 }
 
+// The operand after a shift or rotate.
 #[tactic(auto, unfolding(crate::specs::Shift::shifted))]
 fn shifted(k: u8, width: Width, a: u64, n: u32) -> u64
     requires a_fits { a < span width }
@@ -177,6 +190,7 @@ fn shifted(k: u8, width: Width, a: u64, n: u32) -> u64
     }
 }
 
+// RFLAGS after a shift or rotate by a count that is not 0; `word` is the operand after it.
 #[tactic(auto, unfolding(crate::specs::Shift::flags_moved))]
 fn flags_moved(k: u8, width: Width, a: u64, word: u64, n: u32, flags: u64) -> u64
     requires some { 0 < n }

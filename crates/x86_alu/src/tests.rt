@@ -43,6 +43,9 @@ fn shifts_as_a_processor_does_them(rt: HostRuntime) {
         let answer = any_shift(k, width, a, count, flags | OTHERS);
         assert!(rt; answer.0 == word && answer.1 == after | OTHERS, "row {row}");
     }
+    // SHL of 32 ones by 33 moves one place: CF and SF are set.
+    let (word, flags) = shift(4, Width::D, 0xFFFF_FFFF, 33, 0);
+    assert!(rt; word == 0xFFFF_FFFE && flags == 0x81);
 }
 
 #[test]
