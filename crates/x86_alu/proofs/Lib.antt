@@ -1,0 +1,4 @@
+pub mod Masks
+pub mod Overflow
+pub mod Moves
+pub mod Integers

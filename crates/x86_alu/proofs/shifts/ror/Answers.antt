@@ -1,0 +1,14 @@
+use Rattle.std.proofs.Common.{lt_of_lt_of_le}
+use Rattle.x86_alu.proofs.Moves.{ror_sum_fits, span_le}
+use Rattle.x86_alu.proofs.shifts.ror.Goals as goal
+
+pub overflow_add-result : goal.overflow_add-result
+overflow_add-result c = record {
+  fits = lt_of_lt_of_le
+      (ror_sum_fits c.args.width c.size_of-size.result c.args.a c.args.n c.shl.result c.requires c.size_of-size.ensures c.shl.ensures)
+      (span_le c.args.width);
+}
+
+pub returns-clause-fits : goal.returns-clause-fits
+returns-clause-fits c =
+    ror_sum_fits c.args.width c.size_of-size.result c.args.a c.args.n c.shl.result c.requires c.size_of-size.ensures c.shl.ensures

@@ -1,0 +1,134 @@
+ghost use Rattle.std.specs.Prelude.{◌≡◌, ◌+◌, ◌-◌, ◌%◌, ◌<◌, pos, ◌+ℤ◌, ◌-ℤ◌, not};
+ghost use Rattle.x86_alu.specs.Operand.{span, signed, fits_signed};
+ghost use Rattle.x86_alu.specs.Flags.{bit, carry_of, of_result, with_flags};
+ghost use Rattle.x86_alu.specs.Arithmetic.{sum_of, added, difference_of, subtracted, alu_result, alu_flags};
+
+use crate::flags::{CF, Flags, is_set, of_result, with_flags};
+use crate::op::AluOp;
+use crate::operand::{is_negative, mask_of, size_of, truncated};
+use vm_law::Width;
+
+// A sum of two numbers of one sign has the other sign.
+fn sum_overflows(width: Width, a: u64, b: u64, carry: bool, sum: u64) -> bool
+    requires a_fits { a < span width }
+    requires b_fits { b < span width }
+    requires is_sum { sum ≡ sum_of (span width) a b (bit carry) }
+    ensures { result ≡ not (fits_signed (span width) (signed (span width) a +ℤ signed (span width) b +ℤ pos (bit carry))) }
+{
+    let negative = is_negative(width, a);
+    is_negative(width, b) == negative && is_negative(width, sum) != negative
+}
+
+/// The sum of two operands and a carry, and its flags.
+#[tactic(auto, unfolding(crate::specs::Arithmetic::added))]
+fn added(width: Width, a: u64, b: u64, carry: bool) -> (u64, Flags)
+    requires a_fits { a < span width }
+    requires b_fits { b < span width }
+    ensures sum { result.0 ≡ sum_of (span width) a b (bit carry) }
+    ensures flags { result.1 ≡ added (span width) a b (bit carry) }
+{
+    let wide = u128::from(a) + u128::from(b) + u128::from(carry);
+    let sum = truncated(width, wide);
+    let digits = (a & 15) + (b & 15) + u64::from(carry);
+    let flags = Flags {
+        cf: wide > u128::from(mask_of(width)),
+        af: digits > 15,
+        of: sum_overflows(width, a, b, carry, sum),
+        ..of_result(width, sum)
+    };
+    (sum, flags)
+}
+
+// A difference of two numbers of different signs has the second one's sign.
+fn difference_overflows(width: Width, a: u64, b: u64, borrow: bool, difference: u64) -> bool
+    requires a_fits { a < span width }
+    requires b_fits { b < span width }
+    requires is_difference { difference ≡ difference_of (span width) a b (bit borrow) }
+    ensures { result ≡ not (fits_signed (span width) (signed (span width) a -ℤ signed (span width) b -ℤ pos (bit borrow))) }
+{
+    let negative = is_negative(width, a);
+    is_negative(width, b) != negative && is_negative(width, difference) != negative
+}
+
+/// The difference of two operands and a borrow, and its flags.
+#[tactic(auto, unfolding(crate::specs::Arithmetic::subtracted))]
+fn subtracted(width: Width, a: u64, b: u64, borrow: bool) -> (u64, Flags)
+    requires a_fits { a < span width }
+    requires b_fits { b < span width }
+    ensures difference { result.0 ≡ difference_of (span width) a b (bit borrow) }
+    ensures flags { result.1 ≡ subtracted (span width) a b (bit borrow) }
+{
+    let taken = u128::from(b) + u128::from(borrow);
+    let difference = truncated(
+        width,
+        u128::from(mask_of(width)) + 1 + u128::from(a) - taken,
+    );
+    let digit = (b & 15) + u64::from(borrow);
+    let flags = Flags {
+        cf: u128::from(a) < taken,
+        af: a & 15 < digit,
+        of: difference_overflows(width, a, b, borrow, difference),
+        ..of_result(width, difference)
+    };
+    (difference, flags)
+}
+
+// A bitwise result with its flags.
+fn bitwise(width: Width, word: u64) -> (u64, Flags)
+    requires { word < span width }
+    ensures word { result.0 ≡ word }
+    ensures flags { result.1 ≡ of_result (span width) word }
+{
+    (word, of_result(width, word))
+}
+
+// The same answer with another carry flag.
+fn keeping_carry(carry: bool, answer: (u64, Flags)) -> (u64, Flags)
+    ensures word { result.0 ≡ answer.0 }
+    ensures flags { result.1 ≡ record answer.1 { cf = carry } }
+{
+    (
+        answer.0,
+        Flags {
+            cf: carry,
+            ..answer.1
+        },
+    )
+}
+
+// An answer with its flags written into RFLAGS.
+fn finished(rflags: u64, answer: (u64, Flags)) -> (u64, u64)
+    ensures word { result.0 ≡ answer.0 }
+    ensures flags { result.1 ≡ with_flags rflags answer.1 }
+{
+    (answer.0, with_flags(rflags, answer.1))
+}
+
+/// The result of an operation on operands of `width`, and RFLAGS after it.
+///
+/// `flags` is RFLAGS before: of it ADC and SBB read the carry flag, INC and DEC keep it, NOT keeps all, and every
+/// operation keeps all bits but the six status flags. NOT, NEG, INC and DEC ignore `b`. The result of CMP and TEST is
+/// for the caller to drop. Source: Intel SDM volume 2, the pages of the instructions.
+#[tactic(auto, unfolding(crate::specs::Arithmetic::alu_result, crate::specs::Arithmetic::alu_flags))]
+pub fn alu(op: AluOp, width: Width, a: u64, b: u64, flags: u64) -> (u64, u64)
+    requires a_fits { a < span width }
+    requires b_fits { b < span width }
+    ensures result { result.0 ≡ alu_result op (span width) a b (carry_of flags) }
+    ensures fits { result.0 < span width }
+    ensures flags { result.1 ≡ alu_flags op (span width) a b flags }
+{
+    let carry = is_set(flags, CF);
+    match op {
+        AluOp::Add => finished(flags, added(width, a, b, false)),
+        AluOp::Adc => finished(flags, added(width, a, b, carry)),
+        AluOp::Sub | AluOp::Cmp => finished(flags, subtracted(width, a, b, false)),
+        AluOp::Sbb => finished(flags, subtracted(width, a, b, carry)),
+        AluOp::And | AluOp::Test => finished(flags, bitwise(width, a & b)),
+        AluOp::Or => finished(flags, bitwise(width, a | b)),
+        AluOp::Xor => finished(flags, bitwise(width, a ^ b)),
+        AluOp::Not => (mask_of(width) - a, flags),
+        AluOp::Neg => finished(flags, subtracted(width, 0, a, false)),
+        AluOp::Inc => finished(flags, keeping_carry(carry, added(width, a, 1, false))),
+        AluOp::Dec => finished(flags, keeping_carry(carry, subtracted(width, a, 1, false))),
+    }
+}
