@@ -1,4 +1,4 @@
--- The status of each end, as sysexits(3) has it for want of memory and the program itself for the rest.
+-- The status of each end. 71 is that of sysexits(3) for a refusal of the system, and the rest are this program's own.
 use Rattle.std.specs.Prelude.{ℕ, Result, Ok, Err}
 use Rattle.vm_host.specs.declared.host.HostFault.TheVariants as host
 use Rattle.vm_run.specs.declared.loading.LoadFault.{LoadFault}
