@@ -10,9 +10,9 @@
 mod decoder;
 mod fault;
 mod index;
-mod meaning;
+pub mod meaning;
 mod parts;
-mod reading;
+pub mod reading;
 
 pub use decoder::{decode, one_spelling};
 pub use fault::DecodeFault;

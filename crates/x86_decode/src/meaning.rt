@@ -49,8 +49,9 @@ fn word_or_long(size: bool) -> Width
     if size { Width::W } else { Width::D }
 }
 
+/// The width of an operation. Source: Intel SDM volume 2, sections 2.2.1.2 and A.2.2.
 #[tactic(auto, unfolding(vm_law::specs::Meaning::width_of))]
-pub(crate) fn width_of(class: Class, p: Prefixes, rex: Option<Rex>) -> Width
+pub fn width_of(class: Class, p: Prefixes, rex: Option<Rex>) -> Width
     ensures { result ≡ width_of class p rex }
 {
     match class {
@@ -68,7 +69,8 @@ pub(crate) fn width_of(class: Class, p: Prefixes, rex: Option<Rex>) -> Width
     }
 }
 
-pub(crate) fn sib_len(modrm: &[u8]) -> usize
+/// How many SIB bytes stand behind a ModRM byte, 0 or 1. Source: Intel SDM volume 2, section 2.1.5.
+pub fn sib_len(modrm: &[u8]) -> usize
     ensures { result ≡ sib_len modrm.now }
 {
     match modrm {
@@ -86,8 +88,9 @@ fn base_field(m: u8, sib: &[u8]) -> u8
     }
 }
 
+/// How many bytes a displacement has, 0, 1 or 4. Source: Intel SDM volume 2, section 2.1.5.
 #[tactic(auto, unfolding(vm_law::specs::Meaning::disp_len))]
-pub(crate) fn disp_len(modrm: &[u8], sib: &[u8]) -> usize
+pub fn disp_len(modrm: &[u8], sib: &[u8]) -> usize
     ensures { result ≡ disp_len modrm.now sib.now }
 {
     let [m, ..] = modrm else {
@@ -105,8 +108,9 @@ pub(crate) fn disp_len(modrm: &[u8], sib: &[u8]) -> usize
     if base_field(*m, sib) == 5 { 4 } else { 0 }
 }
 
+/// How many bytes an immediate has, 0 to 8. Source: Intel SDM volume 2, section A.2.2.
 #[tactic(auto, unfolding(vm_law::specs::Meaning::imm_len))]
-pub(crate) fn imm_len(imm: Imm, w: Width) -> usize
+pub fn imm_len(imm: Imm, w: Width) -> usize
     ensures { result ≡ imm_len imm w }
 {
     match imm {
@@ -274,7 +278,8 @@ fn number_of(l: Loc) -> u8
     }
 }
 
-fn place_of(s: Src) -> Loc
+/// The place that is read, and register 0 where an immediate is.
+pub fn place_of(s: Src) -> Loc
     ensures { result ≡ place_of s }
 {
     match s {
@@ -375,8 +380,9 @@ fn opcode_register(w: Width, h: &Head, first: u8) -> Loc
     register(w, h.rex, (h.byte - first) % 8 + rex_base(h.rex))
 }
 
+/// The width of ModRM's operand, which for MOVZX, MOVSX and MOVSXD isn't that of the register.
 #[tactic(auto, unfolding(vm_law::specs::Meaning::source_width))]
-fn source_width(kind: OpKind, w: Width) -> Width
+pub fn source_width(kind: OpKind, w: Width) -> Width
     ensures { result ≡ source_width kind w }
 {
     match kind {
@@ -416,8 +422,9 @@ fn operands(
     }
 }
 
+/// The instruction that the parts of a spelling mean by a row.
 #[tactic(auto, unfolding(vm_law::specs::Meaning::meaning))]
-pub(crate) fn meaning(
+pub fn meaning(
     row: &Row,
     h: &Head,
     modrm: &[u8],

@@ -103,7 +103,8 @@ fn rex_b(rex: Option<Rex>) -> bool
     }
 }
 
-fn takes_size(class: Class) -> bool
+/// Whether 66, the operand-size override, may stand before a row of this class.
+pub fn takes_size(class: Class) -> bool
     ensures { result ≡ takes_size class }
 {
     match class {
@@ -172,8 +173,9 @@ fn fits_side(side: Side, m: u8) -> bool
     }
 }
 
+/// Whether a row has these prefixes, REX byte, opcode and ModRM byte.
 #[tactic(auto, unfolding(vm_law::specs::Rows::fits))]
-fn fits(row: &Row, h: &Head, modrm: &[u8]) -> bool
+pub fn fits(row: &Row, h: &Head, modrm: &[u8]) -> bool
     ensures { result ≡ fits row.now h.now modrm.now }
 {
     match modrm {
