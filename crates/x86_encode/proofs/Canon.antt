@@ -175,7 +175,7 @@ unfolding opcode_bytes
 opcode_is a One x l p i = ap (λ (z : Map). opcode_bytes z x) p ∙ sym i
 opcode_is a Two x l p i = ap (λ (z : Map). opcode_bytes z x) p ∙ sym i
 
-is_opcode : (a : Map) (x : ℕ) → IsOpcode a x (opcode_bytes a x)
+pub is_opcode : (a : Map) (x : ℕ) → IsOpcode a x (opcode_bytes a x)
 unfolding opcode_bytes
 is_opcode One x = refl
 is_opcode Two x = refl
@@ -436,10 +436,10 @@ module _ (labels : Labels) (row : Row) (among : Contains ROWS row) (h : Head) (f
       let o2 = o_loc f op in
       let narrow_w : is_b row.class ≡ false → is_narrow w ≡ false = λ z. wide_class row.class p rx z in
       let e_known : has_e f ≡ true → e2 ≡ e = λ has.
-          e_kept k c m e g o (signed_of imm) imm f (sure_register row) (is_mem row.side)
-          (known_e row.side (sure_register row) (is_mem row.side) ew rx m sib disp
-          (λ z. let z1 = and_parts (is_reg row.side) (not (is_b row.class) && not (narrows k)) z in let z2 = and_parts (not (is_b row.class)) (not (narrows k)) z1.1 in (z1.0, stays_wide k w (not-true (narrows k) z2.1) (narrow_w (not-true (is_b row.class) z2.0))))
-          (λ z. z) (side_fits row.slash row.side p.lock ms (one_modrm f row.slash row.side p.lock ms law.slash has fs.1) fs.1)) law.e has in
+      e_kept k c m e g o (signed_of imm) imm f (sure_register row) (is_mem row.side)
+      (known_e row.side (sure_register row) (is_mem row.side) ew rx m sib disp
+      (λ z. let z1 = and_parts (is_reg row.side) (not (is_b row.class) && not (narrows k)) z in let z2 = and_parts (not (is_b row.class)) (not (narrows k)) z1.1 in (z1.0, stays_wide k w (not-true (narrows k) z2.1) (narrow_w (not-true (is_b row.class) z2.0))))
+      (λ z. z) (side_fits row.slash row.side p.lock ms (one_modrm f row.slash row.side p.lock ms law.slash has fs.1) fs.1)) law.e has in
       let g_known : has_g f ≡ true → g2 ≡ g = λ has. g_kept k c m e g o (signed_of imm) imm f (not (is_b row.class)) (known_register_slot (is_b row.class) w rx (gn + rex_r rx) narrow_w) law.g has in
       let o_known : has_o f ≡ true → o2 ≡ o = λ has. o_kept k c m e g o (signed_of imm) imm f (not (is_b row.class)) (known_register_slot (is_b row.class) w rx (on + rex_base rx) narrow_w) law.o has in
       let rg = reg_slot (has_g f) w rx gn (rex_r rx) g2 (omega arith) (r_cases rx) (λ q. ap rex_r q) g_known (g_none f op) in
@@ -474,19 +474,19 @@ module _ (labels : Labels) (row : Row) (among : Contains ROWS row) (h : Head) (f
       let head2 = head_is row w p.lock (condition_of op) e2 g2 o2 pl h.byte byte_is in
       let w2 : width_of row.class h2.prefixes rex2 ≡ w = width_again row.class p h2.prefixes rx rex2 refl (λ q. rex_for_w must wide r pl.x b ∙ wide_quad row.need f row.class w law.need q) in
       let meet2 : meets row.need rex2 c ≡ true = meets_wide row.need row.class w rx rex2 c f law.need t.need (rex_for_w must wide r pl.x b)
-          (λ q u. rex_for_bit must wide r pl.x b ∙ or_from pl.b (bit_of o2) (mp.b_none q) (o_bit_none u))
-          (λ q u. rex_for_bit must wide r pl.x b ∙ or_right pl.b (bit_of o2) (ro.bit_is q ∙ le-leb 8 (on + rex_base rx) (omega (arith, b_eight rx u)))) in
+      (λ q u. rex_for_bit must wide r pl.x b ∙ or_from pl.b (bit_of o2) (mp.b_none q) (o_bit_none u))
+      (λ q u. rex_for_bit must wide r pl.x b ∙ or_right pl.b (bit_of o2) (ro.bit_is q ∙ le-leb 8 (on + rex_base rx) (omega (arith, b_eight rx u)))) in
       let taken2 : takes row h2 ≡ true = takes_from row h2 (map_same row.map) t.low t.high (implied size2 (takes_size row.class) (λ q. sized_takes row.class w q)) t.lock (bool_same row.rep) meet2 in
       let fit2 : fits row h2 ms2 ≡ true = fits_join row h2 ms2 taken2 (mg.fits p.lock fs.1) in
       -- it is read back
       let g_again : has_g f ≡ true → register w rex2 (byte_of ms2 / 8 % 8 + rex_r rex2) ≡ g = λ q.
-          ap (λ (n : ℕ). register w rex2 (n + rex_r rex2)) (mg.g_is q ∙ rg.low_is q) ∙ rg.again rex2 (rex_r rex2) none2 (λ z. (must_parts ew w e2 g2 o2 (musts z)).1) (rex_for_r must wide r pl.x b) (λ z. ap rex_r z) q ∙ g_known q in
+      ap (λ (n : ℕ). register w rex2 (n + rex_r rex2)) (mg.g_is q ∙ rg.low_is q) ∙ rg.again rex2 (rex_r rex2) none2 (λ z. (must_parts ew w e2 g2 o2 (musts z)).1) (rex_for_r must wide r pl.x b) (λ z. ap rex_r z) q ∙ g_known q in
       let o_again : has_o f ≡ true → register w rex2 (on + rex_base rex2) ≡ o = λ q.
-          ro.again rex2 (rex_base rex2) none2 (λ z. (must_parts ew w e2 g2 o2 (musts z)).2) (rex_for_b must wide r pl.x b ∙ ap eight (none_or pl.b (bit_of o2) (mp.b_none (no_o_e f q)))) (λ z. ap rex_base z) q ∙ o_known q in
+      ro.again rex2 (rex_base rex2) none2 (λ z. (must_parts ew w e2 g2 o2 (musts z)).2) (rex_for_b must wide r pl.x b ∙ ap eight (none_or pl.b (bit_of o2) (mp.b_none (no_o_e f q)))) (λ z. ap rex_base z) q ∙ o_known q in
       let mean2 : meaning row h2 ms2 pl.sib pl.disp imm ≡ insn =
-          meaning_is row h2 ms2 pl.sib pl.disp imm
-          ∙ ap (λ (v : Width). value k f p.lock v c (byte_of ms2) (e_of (source_width k v) rex2 (byte_of ms2) pl.sib pl.disp) (register v rex2 (byte_of ms2 / 8 % 8 + rex_r rex2)) (register v rex2 (on + rex_base rex2)) imm) w2
-          ∙ value_same k f p.lock w c m (byte_of ms2) e g o (e_of ew rex2 (byte_of ms2) pl.sib pl.disp) (register w rex2 (byte_of ms2 / 8 % 8 + rex_r rex2)) (register w rex2 (on + rex_base rex2)) imm law.fence mg.same_byte (λ q. mg.e_is q ∙ e_known q) g_again o_again in
+      meaning_is row h2 ms2 pl.sib pl.disp imm
+      ∙ ap (λ (v : Width). value k f p.lock v c (byte_of ms2) (e_of (source_width k v) rex2 (byte_of ms2) pl.sib pl.disp) (register v rex2 (byte_of ms2 / 8 % 8 + rex_r rex2)) (register v rex2 (on + rex_base rex2)) imm) w2
+      ∙ value_same k f p.lock w c m (byte_of ms2) e g o (e_of ew rex2 (byte_of ms2) pl.sib pl.disp) (register w rex2 (byte_of ms2 / 8 % 8 + rex_r rex2)) (register w rex2 (on + rex_base rex2)) imm law.fence mg.same_byte (λ q. mg.e_is q ∙ e_known q) g_again o_again in
       let imm2 = imm_kept k f row.imm w c m e g o imm law.imm imm_is imm_bytes in
       let parts2 = parts_at h2 ms2 pl.sib pl.disp imm in
       let plain2 : plain_by labels row insn ≡ parts2 = plain_is lg row p.lock w op h2 imm head2 imm2 in
@@ -507,17 +507,17 @@ module _ (labels : Labels) (row : Row) (among : Contains ROWS row) (h : Head) (f
       let calm = no_clash h (live_from row h ms among fit) in
       let rb = rex_below must wide r pl.x b rx is_head.rex bits is_head.is_rex in
       let le_first : Le (pre ++ (rexb ++ opb)) first = subst (λ (l : List ℕ). Le (pre ++ (rexb ++ opb)) l) (sym is_head.parts)
-          (Le-append pre is_head.prefixes (rexb ++ opb) (is_head.rex ++ is_head.opcode)
-          (prefixes_below size2 p.lock row.rep p is_head.prefixes is_head.are_prefixes (λ q. size_is_needed row.class p rx q) (λ q. q) (λ q. bool_is p.rep row.rep t.rep q) calm)
-          (Le-append rexb is_head.rex opb is_head.opcode (record { len = rb.0; lex = rb.1 })
-          (Le-same opb is_head.opcode (opcode_is row.map h.map h.byte is_head.opcode (map_is row.map h.map t.map) is_head.is_opcode)))) in
+      (Le-append pre is_head.prefixes (rexb ++ opb) (is_head.rex ++ is_head.opcode)
+      (prefixes_below size2 p.lock row.rep p is_head.prefixes is_head.are_prefixes (λ q. size_is_needed row.class p rx q) (λ q. q) (λ q. bool_is p.rep row.rep t.rep q) calm)
+      (Le-append rexb is_head.rex opb is_head.opcode (record { len = rb.0; lex = rb.1 })
+      (Le-same opb is_head.opcode (opcode_is row.map h.map h.byte is_head.opcode (map_is row.map h.map t.map) is_head.is_opcode)))) in
       let le_tail : Le (ms2 ++ (pl.sib ++ (pl.disp ++ imm))) (ms ++ (sib ++ (disp ++ imm))) =
-          subst (λ (l : List ℕ). Le l (ms ++ (sib ++ (disp ++ imm)))) (regroup ms2 pl.sib pl.disp imm)
-          (subst (λ (l : List ℕ). Le ((ms2 ++ (pl.sib ++ pl.disp)) ++ imm) l) (regroup ms sib disp imm)
-          (Le-append (ms2 ++ (pl.sib ++ pl.disp)) (ms ++ (sib ++ disp)) imm imm mp.le (Le-same imm imm refl))) in
+      subst (λ (l : List ℕ). Le l (ms ++ (sib ++ (disp ++ imm)))) (regroup ms2 pl.sib pl.disp imm)
+      (subst (λ (l : List ℕ). Le ((ms2 ++ (pl.sib ++ pl.disp)) ++ imm) l) (regroup ms sib disp imm)
+      (Le-append (ms2 ++ (pl.sib ++ pl.disp)) (ms ++ (sib ++ disp)) imm imm mp.le (Le-same imm imm refl))) in
       let whole : Le (written (plain_by labels row insn)) (first ++ (ms ++ (sib ++ (disp ++ imm)))) =
-          subst (λ (l : List ℕ). Le l (first ++ (ms ++ (sib ++ (disp ++ imm))))) (sym (ap written plain2 ∙ written_is h2 ms2 pl.sib pl.disp imm))
-          (Le-append (pre ++ (rexb ++ opb)) first (ms2 ++ (pl.sib ++ (pl.disp ++ imm))) (ms ++ (sib ++ (disp ++ imm))) le_first le_tail) in
+      subst (λ (l : List ℕ). Le l (first ++ (ms ++ (sib ++ (disp ++ imm))))) (sym (ap written plain2 ∙ written_is h2 ms2 pl.sib pl.disp imm))
+      (Le-append (pre ++ (rexb ++ opb)) first (ms2 ++ (pl.sib ++ (pl.disp ++ imm))) (ms ++ (sib ++ (disp ++ imm))) le_first le_tail) in
       subst (λ (i : Insn). Good labels row i (first ++ (ms ++ (sib ++ (disp ++ imm))))) (sym mean) (record { fits = all_fits; first = Le-before (written (plain_by labels row insn)) (first ++ (ms ++ (sib ++ (disp ++ imm)))) whole })
 
 -- the row's plain spelling is one, and no later than any that it has

@@ -3,6 +3,7 @@ pub mod Below
 pub mod Best
 pub mod Canon
 pub mod Fields
+pub mod Minimum
 pub mod Numbers
 pub mod Operand
 pub mod Order

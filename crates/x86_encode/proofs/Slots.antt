@@ -19,7 +19,6 @@ use Rattle.vm_law.specs.declared.table.OpKind.TheVariants as kind
 use Rattle.vm_law.specs.Meaning.{short_signed_of, word_of, byte_of, source_width, number_of as register_of, place_of as loc_of, mem_of, op_of}
 use Rattle.x86_encode.specs.Plain.{no_loc, first_of, second_of, e_loc, g_loc, o_loc, condition_of, source_number, number_of}
 
-
 -- ---- what is kept
 
 pub data Kept : Type 0 where

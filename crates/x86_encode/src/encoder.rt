@@ -26,6 +26,14 @@ pub fn spelled(insn: &Insn) -> bool
     labelled(insn, NO_LABELS)
 }
 
+fn copy_front(into: &mut [u8; 15], bytes: &[u8])
+    requires { length bytes.now ≤ 15 }
+    ensures front { take (length bytes.now) into.new ≡ bytes.now }
+    ensures rest { drop (length bytes.now) into.new ≡ drop (length bytes.now) into.old }
+{
+    into[..bytes.len()].copy_from_slice(bytes);
+}
+
 /// Writes the canonical spelling of an instruction with labels, and answers its length, 1 to 15.
 ///
 /// It is the least, by length and then byte by byte, of the spellings with 32 bits in each field that
@@ -40,9 +48,8 @@ pub fn encode_labelled(insn: &Insn, labels: Labels, into: &mut [u8; 15]) -> u8
     let Some(text) = least(labels, insn) else {
         return 0;
     };
-    let bytes = text.as_slice();
-    into[..bytes.len()].copy_from_slice(bytes);
-    bytes.len() as u8
+    copy_front(into, text.as_slice());
+    text.len() as u8
 }
 
 /// Writes the canonical spelling of an instruction, and answers its length, 1 to 15.

@@ -1,6 +1,6 @@
-ghost use Rattle.std.specs.Prelude.{◌≡◌, ◌↔◌, if◌then◌else◌, IsTrue, true, MatchOption};
+ghost use Rattle.std.specs.Prelude.{◌≡◌, ◌↔◌, if◌then◌else◌, IsTrue, true, MatchOption, IfSome, length, ◌≤◌};
 ghost use Rattle.std.specs.Option.{option_map};
-ghost use Rattle.vm_law.specs.declared.table.TheConstants.{ROWS};
+ghost use Rattle.x86_encode.specs.Canonical.{HasLabelled, IsCanonicalWith};
 ghost use Rattle.x86_encode.specs.Order.{lex_le, before};
 ghost use Rattle.x86_encode.specs.Plain.{Parts, written};
 ghost use Rattle.x86_encode.specs.Seen.{parts_of};
@@ -32,6 +32,7 @@ fn before(a: &[u8], b: &[u8]) -> bool
 }
 
 /// Whether the parts are those of a spelling of the instruction by the row.
+#[tactic(auto, using(crate::proofs::Minimum::fits_below))]
 fn parts_fit(
     row: &Row,
     head: &Head,
@@ -117,9 +118,10 @@ fn least_of(labels: Labels, rows: &[Row], insn: &Insn) -> Option<Text>
     best
 }
 
-/// The least of the plain spellings over the table.
+/// The least of the plain spellings over the table, which is the canonical spelling, where there is one.
 pub(crate) fn least(labels: Labels, insn: &Insn) -> Option<Text>
-    ensures { MatchOption result (NoneFits labels insn.now ROWS) (λ t. IsLeast labels insn.now ROWS t.items) }
+    ensures canonical { MatchOption result (HasLabelled labels insn.now → ⊥) (λ t. IsCanonicalWith labels insn.now t.items) }
+    ensures brief { IfSome result (λ t. length t.items ≤ 15) }
 {
     least_of(labels, &ROWS, insn)
 }

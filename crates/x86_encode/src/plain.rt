@@ -187,7 +187,7 @@ fn number_bytes(count: usize, number: i64) -> ArrayVec<u8, 8>
 }
 
 /// The parts of the plain spelling by a row, with a long displacement where it is asked.
-#[tactic(auto, unfolding(crate::specs::Plain::plain))]
+#[tactic(auto, using(crate::proofs::Numbers::imm_small), unfolding(crate::specs::Plain::plain))]
 pub(crate) fn plain(long: bool, row: &Row, insn: &Insn) -> Spelling
     ensures { parts_of result ≡ plain long row.now insn.now }
 {
