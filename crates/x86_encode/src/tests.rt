@@ -1,6 +1,6 @@
 ghost use Rattle.x86_encode.specs.Canonical.{IsDecoded};
 
-use crate::cases::{CASES, Case, LABELLED};
+use crate::cases::{ARITHMETIC, CONTROL, Case, LABELLED, MOVES, OPERATIONS};
 use crate::{Labels, encode, encode_labelled, encoded_decodes, labelled, spelled};
 use vm_law::{Count, Insn, Loc, Map, Mem, Op, ROWS, Row, Src, Width};
 use x86_decode::{DecodeFault, decode};
@@ -12,13 +12,20 @@ fn decoded(bytes: &[u8]) -> Result<(Insn, u8), DecodeFault>
     decode(bytes)
 }
 
+/// The bytes as the digits of one number.
+fn number_of(bytes: &[u8]) -> u128 {
+    bytes
+        .iter()
+        .fold(0, |number, byte| number << 8 | u128::from(*byte))
+}
+
 fn is_written(case: &Case) -> bool {
     if !labelled(&case.insn, case.labels) {
         return false;
     }
     let mut into = [0xAA; 15];
-    let n = encode_labelled(&case.insn, case.labels, &mut into) as usize;
-    &into[..n] == case.bytes
+    let len = encode_labelled(&case.insn, case.labels, &mut into) as usize;
+    len == case.len && number_of(&into[..len]) == case.bytes
 }
 
 /// The first of these that isn't written as it says.
@@ -26,8 +33,20 @@ fn first_wrong(cases: &[Case]) -> Option<usize> {
     cases.iter().position(|case| !is_written(case))
 }
 
-fn wrong_case() -> Option<usize> {
-    first_wrong(&CASES)
+fn wrong_move() -> Option<usize> {
+    first_wrong(&MOVES)
+}
+
+fn wrong_arithmetic() -> Option<usize> {
+    first_wrong(&ARITHMETIC)
+}
+
+fn wrong_operation() -> Option<usize> {
+    first_wrong(&OPERATIONS)
+}
+
+fn wrong_control() -> Option<usize> {
+    first_wrong(&CONTROL)
 }
 
 fn wrong_label() -> Option<usize> {
@@ -36,7 +55,10 @@ fn wrong_label() -> Option<usize> {
 
 #[test]
 fn instructions_are_written_as_assemblers_do(rt: HostRuntime) {
-    assert_eq!(rt; wrong_case(), None);
+    assert_eq!(rt; wrong_move(), None);
+    assert_eq!(rt; wrong_arithmetic(), None);
+    assert_eq!(rt; wrong_operation(), None);
+    assert_eq!(rt; wrong_control(), None);
     assert_eq!(rt; wrong_label(), None);
 }
 
