@@ -424,14 +424,7 @@ fn operands(
 
 /// The instruction that the parts of a spelling mean by a row.
 #[tactic(auto, unfolding(vm_law::specs::Meaning::meaning))]
-pub fn meaning(
-    row: &Row,
-    h: &Head,
-    modrm: &[u8],
-    sib: &[u8],
-    disp: &[u8],
-    imm: &[u8],
-) -> Insn
+pub fn meaning(row: &Row, h: &Head, modrm: &[u8], sib: &[u8], disp: &[u8], imm: &[u8]) -> Insn
     requires { row.now.byte ≤ h.now.byte }
     ensures { result ≡ meaning row.now h.now modrm.now sib.now disp.now imm.now }
 {

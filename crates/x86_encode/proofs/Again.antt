@@ -1,17 +1,17 @@
 -- The plain form of a place is read back.
-use Rattle.std.proofs.Common.{◌≡◌, ℕ, zero, suc, ◌+◌, ◌-◌, ◌*◌, ◌/◌, ◌%◌, ◌<◌, ◌≤◌, Bool, true, false, cond, List, [], ◌∷◌, ◌++◌, length, Option, Some, None, refl, sym, ap, subst, ◌∙◌, arith, ◌⊎◌, inl, inr}
-use Rattle.std.specs.Prelude.{◌^◌, ◌≢◌, ℤ, pos, negsuc, ◌&&◌, ◌||◌, nat_lt, nat_le, ◌==◌, slice_index}
-use Rattle.std.specs.Int.{w8, w32, cast_unsigned, cast_signed, to_le_bytes, from_le_bytes}
-use Rattle.std.proofs.lemmas.Bool.{cases_lt, cases_eq, cases_Bool, lt-ltb, le-ltb, le-leb, lt-leb, eq-eqb, ne_eqb, and_from, and_left, and_right, and_parts, leb-true, eqb-true, not-true}
+use Rattle.std.proofs.Common.{◌≡◌, ℕ, zero, suc, ◌+◌, ◌*◌, ◌/◌, ◌%◌, ◌<◌, Bool, true, false, List, [], ◌∷◌, length, Option, Some, None, refl, sym, ap, subst, ◌∙◌, arith, ◌⊎◌, inl, inr}
+use Rattle.std.specs.Prelude.{◌≢◌, ℤ, pos, negsuc, nat_le, ◌==◌}
+use Rattle.std.specs.Int.{w8, w32, cast_unsigned, cast_signed}
+use Rattle.std.proofs.lemmas.Bool.{cases_lt, cases_Bool, le-leb, lt-leb, eq-eqb, and_from, and_parts, eqb-true}
 use Rattle.std.proofs.lemmas.Bool.Decides.{nat_tests}
-use Rattle.std.proofs.lemmas.List.{nil_from_length, get_or_past}
+use Rattle.std.proofs.lemmas.List.{get_or_past}
 use Rattle.vm_law.specs.declared.head.Rex.{Rex}
 use Rattle.vm_law.specs.declared.insn.Mem.{Mem}
 use Rattle.vm_law.specs.Rows.{not}
-use Rattle.vm_law.specs.Meaning.{eight, rex_x, rex_base, sib_len, disp_len, base_field, short_signed_of, scale_of, base_of, address}
+use Rattle.vm_law.specs.Meaning.{eight, rex_x, rex_base, sib_len, disp_len, base_field, short_signed_of, scale_of, address}
 use Rattle.vm_law.specs.Grammar.{IsBytes}
-use Rattle.x86_encode.specs.Place.{Place, is_none, is_byte, fits_none, fits_byte, disp8, disp32, fewest_mode, fewest_bytes, scale_bits, no_index, with_index, place_at, place_of}
-use Rattle.x86_encode.proofs.Places.{IsDisp, at_place, mem_of, x_cases, b_cases, one_signed, none_signed, four_back, fewest_none, fewest_one, fewest_four, one_item, not_none, bare_rip, bare_base, rip_place, sib_place, bare_place, sib_none, sib_some, base_none, base_some, no_base_place, index_place, both_place, sib_back, base_low, no_high, long_disp, plain_disp, cases_both, sib_one, sib_zero, sib_four, sib_two, len_of, none_len, one_len, four_len, byte_is_byte, byte_back}
+use Rattle.x86_encode.specs.Place.{Place, is_none, is_byte, fits_none, fits_byte, disp8, fewest_mode, fewest_bytes}
+use Rattle.x86_encode.proofs.Places.{IsDisp, at_place, mem_of, one_signed, none_signed, four_back, fewest_none, fewest_one, fewest_four, one_item, not_none, bare_rip, bare_base, sib_none, sib_some, base_none, base_some, sib_one, sib_zero, len_of, none_len, one_len, four_len, byte_is_byte}
 
 one_byte : (m : ℕ) → m < 256 → IsBytes (m ∷ [])
 one_byte m lt zero = lt

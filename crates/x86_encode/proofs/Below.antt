@@ -1,14 +1,13 @@
 -- Lists of bytes that are no longer, and no later where they are as long.
-use Rattle.std.proofs.Common.{◌≡◌, ℕ, zero, suc, ◌+◌, ◌-◌, ◌*◌, ◌/◌, ◌%◌, ◌<◌, ◌≤◌, Bool, true, false, cond, List, [], ◌∷◌, ◌++◌, length, Option, Some, None, refl, sym, ap, subst, ◌∙◌, arith, ◌⊎◌, inl, inr}
-use Rattle.std.specs.Prelude.{◌&&◌, ◌||◌, nat_lt, nat_le, ◌==◌}
-use Rattle.std.proofs.lemmas.Bool.{cases_lt, cases_eq, cases_Bool, cases_order, lt-ltb, and_from, and_parts, or_left, or_right, or_cases, eq-eqb, ne_eqb, eqb-true, ltb-true}
-use Rattle.std.proofs.lemmas.Bool.Decides.{nat_tests}
+use Rattle.std.proofs.Common.{◌≡◌, ℕ, suc, ◌+◌, ◌≤◌, Bool, true, false, cond, List, [], ◌∷◌, ◌++◌, length, Option, Some, None, refl, sym, ap, subst, ◌∙◌, arith, ◌⊎◌, inl, inr}
+use Rattle.std.specs.Prelude.{◌&&◌, ◌||◌, nat_lt, ◌==◌}
+use Rattle.std.proofs.lemmas.Bool.{cases_lt, cases_eq, lt-ltb, and_from, and_parts, or_left, or_right, or_cases, eq-eqb, ne_eqb}
 use Rattle.std.proofs.lemmas.List.{length-append}
 use Rattle.vm_law.specs.declared.head.Prefixes.{Prefixes}
 use Rattle.vm_law.specs.Rows.{no_prefix, add_prefix, clashes}
 use Rattle.vm_law.specs.Grammar.{ArePrefixes}
 use Rattle.x86_encode.specs.Order.{lex_le, before}
-use Rattle.x86_encode.specs.Plain.{prefix_bytes, one_if}
+use Rattle.x86_encode.specs.Plain.{prefix_bytes}
 use Rattle.x86_encode.proofs.Places.{lex_one}
 use Rattle.x86_encode.proofs.Order.{lex_refl, before_same}
 

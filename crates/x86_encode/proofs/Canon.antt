@@ -1,14 +1,12 @@
 -- Of an instruction that a row spells, the row's plain spelling is one, and none by the row is before it.
-use Rattle.std.proofs.Common.{◌≡◌, ℕ, zero, suc, ◌+◌, ◌-◌, ◌*◌, ◌/◌, ◌%◌, ◌<◌, ◌≤◌, Bool, true, false, cond, List, [], ◌∷◌, ◌++◌, length, Option, Some, None, refl, sym, ap, subst, ◌∙◌, arith, append_assoc, ◌⊎◌, inl, inr}
+use Rattle.std.proofs.Common.{◌≡◌, ℕ, ◌+◌, ◌-◌, ◌/◌, ◌%◌, ◌<◌, ◌≤◌, Bool, true, false, cond, List, [], ◌∷◌, ◌++◌, length, Option, Some, None, refl, sym, ap, subst, ◌∙◌, arith, append_assoc, ◌⊎◌, inl, inr}
 use Rattle.std.specs.Prelude.{ℤ, ◌&&◌, ◌||◌, nat_lt, nat_le, ◌==◌, Contains}
 use Rattle.std.specs.List.{list_all}
 use Rattle.std.proofs.lemmas.Bool.{cases_Bool, and_parts, and_from, or_cases, or_left, or_right, or_parts, or_from, leb-true, ltb-true, le-leb, lt-ltb, eqb-true, not-true}
-use Rattle.vm_law.specs.declared.head.Prefixes.{Prefixes}
 use Rattle.vm_law.specs.declared.head.Rex.{Rex}
 use Rattle.vm_law.specs.declared.head.Head.{Head}
 use Rattle.vm_law.specs.declared.insn.Width.{Width}
 use Rattle.vm_law.specs.declared.insn.Loc.{Loc}
-use Rattle.vm_law.specs.declared.insn.Loc.TheVariants as loc
 use Rattle.vm_law.specs.declared.insn.Src.{Src}
 use Rattle.vm_law.specs.declared.insn.Op.{Op}
 use Rattle.vm_law.specs.declared.insn.Insn.{Insn}
@@ -25,25 +23,25 @@ use Rattle.vm_law.specs.declared.table.Slash.{Slash}
 use Rattle.vm_law.specs.declared.table.OpKind.{OpKind}
 use Rattle.vm_law.specs.declared.table.Row.{Row}
 use Rattle.vm_law.specs.declared.table.TheConstants.{ROWS}
-use Rattle.vm_law.specs.Rows.{takes, takes_size, fits, same_map, same_bool, implies, meets, rex_w, rex_b, clashes, fits_slash, fits_side, not}
+use Rattle.vm_law.specs.Rows.{takes, takes_size, fits, same_map, same_bool, implies, meets, rex_w, rex_b, fits_slash, fits_side, not}
 use Rattle.vm_law.specs.Meaning.{eight, rex_r, rex_x, rex_base, width_of, sib_len, disp_len, imm_len, signed_of, register, address, e_of, source_width, opcode_register, operands, op_of, byte_of, meaning}
 use Rattle.vm_law.specs.Grammar.{IsBytes, IsHead, IsOpcode, Spells}
 use Rattle.vm_law.proofs.Finding.{all_at}
-use Rattle.vm_law.proofs.Opcodes.{Takes, takes_parts}
+use Rattle.vm_law.proofs.Opcodes.{takes_parts}
 use Rattle.x86_decode.proofs.HeadPart.{no_clash}
 use Rattle.x86_decode.proofs.Whole.{live_from}
 use Rattle.x86_encode.specs.declared.labels.Labels.{Labels}
 use Rattle.x86_encode.specs.Order.{before}
 use Rattle.x86_encode.specs.Place.{Place}
-use Rattle.x86_encode.specs.Plain.{Parts, no_loc, e_loc, g_loc, o_loc, condition_of, number_of, number_bytes, low_of, bit_of, wants_rex, e_place, modrm_of, needs_wide, is_quad, takes_wide, must_have_rex, is_wide, is_sized, rex_for, head_of, plain, prefix_bytes, rex_bytes, opcode_bytes, head_bytes, written}
+use Rattle.x86_encode.specs.Plain.{Parts, e_loc, g_loc, o_loc, condition_of, number_of, number_bytes, low_of, bit_of, wants_rex, e_place, modrm_of, is_quad, takes_wide, must_have_rex, is_wide, is_sized, rex_for, head_of, plain, prefix_bytes, rex_bytes, opcode_bytes, head_bytes, written}
 use Rattle.x86_encode.specs.Selecting.{Fitting, HoldsLabels, Fits, plain_by}
 use Rattle.x86_encode.proofs.Widths.{wide_is_needed, size_is_needed, sized_takes, width_again, is_b, wide_class}
-use Rattle.x86_encode.proofs.Rexes.{Bits, rex_bits, any_of, is_rex_for, none_for, rex_below, prefixes_are}
+use Rattle.x86_encode.proofs.Rexes.{Bits, rex_bits, any_of, none_for, rex_below}
 use Rattle.x86_encode.proofs.Below.{Le, Le-same, Le-append, Le-before, prefixes_below}
 use Rattle.x86_encode.proofs.Operand.{e_mem, e_reg}
-use Rattle.x86_encode.proofs.Slots.{first_kept, has_condition, is_fence, condition_by, back, no_byte, is_narrow, narrows, stays_wide, has_e, has_g, has_o, first_slot, second_slot, first_same, second_same, Known, keeps_e, keeps_g, keeps_o, e_kept, g_kept, o_kept, e_none, g_none, o_none, no_e_o, g_has_e}
+use Rattle.x86_encode.proofs.Slots.{has_condition, is_fence, condition_by, back, no_byte, is_narrow, narrows, stays_wide, has_e, has_g, has_o, first_slot, second_slot, first_same, second_same, Known, keeps_e, keeps_g, keeps_o, e_kept, g_kept, o_kept, e_none, g_none, o_none, no_e_o, g_has_e}
 use Rattle.x86_encode.proofs.Numbers.{keeps_imm, imm_kept}
-use Rattle.x86_encode.proofs.Fields.{RegSlot, reg_slot, no_loc_bit, register_wide, known_register, known_memory, fits_rest, fits_split, fits_join, slash_ok, one_modrm, ModrmAgain, ModrmPart, modrm_part}
+use Rattle.x86_encode.proofs.Fields.{reg_slot, no_loc_bit, register_wide, known_register, known_memory, fits_rest, fits_split, fits_join, slash_ok, one_modrm, modrm_part}
 
 -- ---- the bits of a REX byte
 

@@ -1,6 +1,6 @@
 -- The fields of a spelling against those of the plain one: registers, and all of ModRM.
-use Rattle.std.proofs.Common.{◌≡◌, ℕ, zero, suc, ◌+◌, ◌-◌, ◌*◌, ◌/◌, ◌%◌, ◌<◌, ◌≤◌, Bool, true, false, cond, List, [], ◌∷◌, ◌++◌, length, Option, Some, None, refl, sym, ap, subst, ◌∙◌, arith, ◌⊎◌, inl, inr}
-use Rattle.std.specs.Prelude.{◌&&◌, ◌||◌, nat_lt, nat_le, ◌==◌, ℤ}
+use Rattle.std.proofs.Common.{◌≡◌, ℕ, zero, suc, ◌+◌, ◌*◌, ◌/◌, ◌%◌, ◌<◌, ◌≤◌, Bool, true, false, cond, List, [], ◌∷◌, ◌++◌, length, Option, Some, None, refl, sym, ap, subst, ◌∙◌, arith, ◌⊎◌, inl, inr}
+use Rattle.std.specs.Prelude.{◌&&◌, nat_lt, nat_le, ◌==◌, ℤ}
 use Rattle.std.proofs.lemmas.Bool.{cases_lt, cases_Bool, and_parts, and_from, or_left, leb-true, ltb-true, le-leb, lt-ltb, lt-leb, eqb-true, eq-eqb, not-true}
 use Rattle.std.proofs.lemmas.List.{nil_from_length, length-append, get_or_past}
 use Rattle.vm_law.specs.declared.head.Rex.{Rex}
@@ -17,15 +17,15 @@ use Rattle.vm_law.specs.declared.table.Side.{Side}
 use Rattle.vm_law.specs.declared.table.Side.TheVariants as side
 use Rattle.vm_law.specs.declared.table.Row.{Row}
 use Rattle.vm_law.specs.Rows.{takes, fits, implies, fits_slash, fits_side, not, has_modrm}
-use Rattle.vm_law.specs.Meaning.{eight, rex_r, rex_x, rex_base, sib_len, disp_len, register, e_of, byte_of, number_of as register_of, mem_of, address}
+use Rattle.vm_law.specs.Meaning.{eight, rex_x, rex_base, sib_len, disp_len, register, e_of, byte_of, number_of as register_of, mem_of}
 use Rattle.vm_law.specs.Grammar.{IsBytes}
 use Rattle.x86_encode.specs.Order.{lex_le}
 use Rattle.x86_encode.specs.Place.{Place, fewest_mode, fits_none, fits_byte, no_index, with_index, place_at}
 use Rattle.x86_encode.specs.Plain.{no_loc, low_of, bit_of, wants_rex, e_place, modrm_of}
-use Rattle.x86_encode.proofs.Registers.{RegPart, reg_part}
-use Rattle.x86_encode.proofs.Operand.{Operand, Reread, operand, e_mem, e_reg, no_sib, no_disp, IsBytes-none}
+use Rattle.x86_encode.proofs.Registers.{reg_part}
+use Rattle.x86_encode.proofs.Operand.{operand, no_sib, no_disp, IsBytes-none}
 use Rattle.x86_encode.proofs.Below.{Le, Le-same, Le-append}
-use Rattle.x86_encode.proofs.Slots.{has_e, has_g, Known, is_narrow}
+use Rattle.x86_encode.proofs.Slots.{has_e, has_g, is_narrow}
 
 -- ---- a register in three bits, with the bit of REX above them
 

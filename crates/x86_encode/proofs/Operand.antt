@@ -1,7 +1,7 @@
 -- The operand in a ModRM byte's last field, a register or a place.
-use Rattle.std.proofs.Common.{◌≡◌, ℕ, zero, suc, ◌+◌, ◌-◌, ◌*◌, ◌/◌, ◌%◌, ◌<◌, ◌≤◌, Bool, true, false, cond, List, [], ◌∷◌, ◌++◌, length, Option, Some, None, refl, sym, ap, subst, ◌∙◌, arith, ◌⊎◌, inl, inr}
-use Rattle.std.specs.Prelude.{ℤ, ◌&&◌, ◌||◌, nat_lt, nat_le, ◌==◌}
-use Rattle.std.proofs.lemmas.Bool.{cases_lt, cases_eq, cases_Bool, lt-ltb, le-ltb, le-leb, lt-leb, and_left, leb-true}
+use Rattle.std.proofs.Common.{◌≡◌, ℕ, ◌+◌, ◌*◌, ◌/◌, ◌%◌, ◌<◌, ◌≤◌, Bool, true, false, cond, List, [], ◌∷◌, length, Option, Some, None, refl, sym, ap, subst, ◌∙◌, arith, inl, inr}
+use Rattle.std.specs.Prelude.{ℤ, nat_le, ◌==◌}
+use Rattle.std.proofs.lemmas.Bool.{cases_lt, le-ltb, le-leb, lt-leb, and_left, leb-true}
 use Rattle.std.proofs.lemmas.List.{nil_from_length, get_or_past}
 use Rattle.vm_law.specs.declared.head.Rex.{Rex}
 use Rattle.vm_law.specs.declared.insn.Mem.{Mem}
@@ -9,14 +9,13 @@ use Rattle.vm_law.specs.declared.insn.Width.{Width}
 use Rattle.vm_law.specs.declared.insn.Width.TheVariants as width
 use Rattle.vm_law.specs.declared.insn.Loc.{Loc}
 use Rattle.vm_law.specs.declared.insn.Loc.TheVariants as loc
-use Rattle.vm_law.specs.Meaning.{eight, rex_r, rex_x, rex_base, sib_len, disp_len, base_field, address, register, e_of}
+use Rattle.vm_law.specs.Meaning.{eight, rex_x, rex_base, sib_len, disp_len, base_field, address, register, e_of}
 use Rattle.vm_law.specs.Grammar.{IsBytes}
 use Rattle.x86_encode.specs.Order.{lex_le}
 use Rattle.x86_encode.specs.Place.{Place, fewest_bytes, no_index, with_index, place_at, place_of}
-use Rattle.x86_encode.specs.Plain.{low_of, bit_of, wants_rex, e_place}
-use Rattle.x86_encode.proofs.Places.{at_place, b_cases, Below, below}
-use Rattle.x86_encode.proofs.Again.{Again}
-use Rattle.x86_encode.proofs.Registers.{RegPart, reg_part, place_again}
+use Rattle.x86_encode.specs.Plain.{wants_rex, e_place}
+use Rattle.x86_encode.proofs.Places.{b_cases, below}
+use Rattle.x86_encode.proofs.Registers.{reg_part, place_again}
 
 pub record Reread (w : Width) (e : Loc) (pl : Place) (rex : Option Rex) (m mid : ℕ) : Type 0 where
   pub back : e_of w rex (pl.mode + mid * 8) pl.sib pl.disp ≡ e

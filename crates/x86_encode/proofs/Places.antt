@@ -1,10 +1,10 @@
 -- The plain spelling of a place in memory is read back, and no spelling of it is before it.
-use Rattle.std.proofs.Common.{◌≡◌, ℕ, zero, suc, ◌+◌, ◌-◌, ◌*◌, ◌/◌, ◌%◌, ◌<◌, ◌≤◌, Bool, true, false, cond, List, [], ◌∷◌, ◌++◌, length, Option, Some, None, refl, sym, ap, subst, ◌∙◌, arith, ◌⊎◌, inl, inr}
-use Rattle.std.specs.Prelude.{◌^◌, ◌≢◌, ℤ, pos, negsuc, ◌&&◌, ◌||◌, nat_lt, nat_le, ◌==◌, slice_index}
-use Rattle.std.specs.Int.{w8, w32, cast_unsigned, cast_signed, to_le_bytes, from_le_bytes}
-use Rattle.std.proofs.lemmas.Bool.{cases_lt, cases_eq, cases_Bool, lt-ltb, le-ltb, le-leb, lt-leb, eq-eqb, ne_eqb, and_from, and_left, and_right, leb-true, or_left, or_right}
+use Rattle.std.proofs.Common.{◌≡◌, ℕ, zero, suc, ◌+◌, ◌*◌, ◌/◌, ◌%◌, ◌<◌, ◌≤◌, Bool, true, false, cond, List, [], ◌∷◌, length, Option, Some, None, refl, sym, ap, subst, ◌∙◌, arith, ◌⊎◌, inl, inr}
+use Rattle.std.specs.Prelude.{◌^◌, ◌≢◌, ℤ, pos, ◌&&◌, nat_lt, nat_le, ◌==◌, slice_index}
+use Rattle.std.specs.Int.{w8, w32, cast_unsigned, cast_signed, from_le_bytes}
+use Rattle.std.proofs.lemmas.Bool.{cases_lt, cases_eq, cases_Bool, lt-ltb, le-ltb, lt-leb, eq-eqb, ne_eqb, and_from, and_left, and_right, leb-true, or_left, or_right}
 use Rattle.std.proofs.lemmas.Bool.Decides.{nat_tests}
-use Rattle.std.proofs.lemmas.Int.{of_z-to_z, ints}
+use Rattle.std.proofs.lemmas.Int.{of_z-to_z}
 use Rattle.std.proofs.lemmas.Nat.{le_bytes_4}
 use Rattle.std.proofs.lemmas.List.{nil_from_length, get_or_past}
 use Rattle.vm_law.specs.declared.head.Rex.{Rex}
@@ -13,7 +13,7 @@ use Rattle.vm_law.specs.Rows.{not}
 use Rattle.vm_law.specs.Meaning.{eight, rex_x, rex_base, sib_len, disp_len, base_field, short_signed_of, scale_of, base_of, address}
 use Rattle.vm_law.specs.Grammar.{IsBytes}
 use Rattle.x86_encode.specs.Order.{lex_le}
-use Rattle.x86_encode.specs.Place.{Place, is_none, is_byte, fits_none, fits_byte, disp8, disp32, fewest_mode, fewest_bytes, scale_bits, no_index, with_index, place_at, place_of}
+use Rattle.x86_encode.specs.Place.{Place, is_none, is_byte, fits_none, fits_byte, disp8, disp32, fewest_mode, fewest_bytes, scale_bits, no_index, with_index, place_of}
 
 -- ---- displacements
 

@@ -1,21 +1,18 @@
 -- Places, registers and REX: what the plain spelling needs, and that it is read back.
-use Rattle.std.proofs.Common.{◌≡◌, ℕ, zero, suc, ◌+◌, ◌-◌, ◌*◌, ◌/◌, ◌%◌, ◌<◌, ◌≤◌, Bool, true, false, cond, List, [], ◌∷◌, ◌++◌, length, Option, Some, None, refl, sym, ap, subst, ◌∙◌, arith, ◌⊎◌, inl, inr}
-use Rattle.std.specs.Prelude.{◌≢◌, ℤ, ◌&&◌, ◌||◌, nat_lt, nat_le, ◌==◌}
-use Rattle.std.proofs.lemmas.Bool.{cases_lt, cases_eq, cases_Bool, lt-ltb, le-ltb, le-leb, lt-leb, eq-eqb, ne_eqb, and_from, and_left, and_right, and_parts, or_cases, leb-true, ltb-true, eqb-true, leb-false}
-use Rattle.std.proofs.lemmas.Bool.Decides.{nat_tests}
+use Rattle.std.proofs.Common.{◌≡◌, ℕ, ◌+◌, ◌-◌, ◌*◌, ◌/◌, ◌%◌, ◌<◌, ◌≤◌, Bool, true, false, cond, List, [], ◌∷◌, length, Option, Some, None, refl, sym, ap, subst, ◌∙◌, arith, inl, inr}
+use Rattle.std.specs.Prelude.{◌&&◌, nat_lt, nat_le}
+use Rattle.std.proofs.lemmas.Bool.{cases_lt, cases_eq, lt-ltb, le-ltb, le-leb, lt-leb, and_from, and_parts, leb-true}
 use Rattle.vm_law.specs.declared.head.Rex.{Rex}
 use Rattle.vm_law.specs.declared.insn.Mem.{Mem}
 use Rattle.vm_law.specs.declared.insn.Width.{Width}
 use Rattle.vm_law.specs.declared.insn.Width.TheVariants as width
 use Rattle.vm_law.specs.declared.insn.Loc.{Loc}
 use Rattle.vm_law.specs.declared.insn.Loc.TheVariants as loc
-use Rattle.vm_law.specs.Rows.{is_rex, rex_of, rex_w, rex_b}
-use Rattle.vm_law.specs.Meaning.{eight, rex_r, rex_x, rex_base, sib_len, disp_len, base_field, short_signed_of, scale_of, base_of, address, register}
-use Rattle.vm_law.specs.Grammar.{IsBytes, IsRex}
-use Rattle.x86_encode.specs.Order.{lex_le}
-use Rattle.x86_encode.specs.Place.{Place, disp32, fewest_mode, fewest_bytes, scale_bits, no_index, with_index, place_at, place_of}
+use Rattle.vm_law.specs.Meaning.{eight, rex_x, rex_base, sib_len, disp_len, short_signed_of, scale_of, address, register}
+use Rattle.vm_law.specs.Grammar.{IsBytes}
+use Rattle.x86_encode.specs.Place.{Place, fewest_mode, fewest_bytes, scale_bits, place_of}
 use Rattle.x86_encode.specs.Plain.{low_of, bit_of, wants_rex, e_place}
-use Rattle.x86_encode.proofs.Places.{IsDisp, at_place, mem_of, x_cases, b_cases, four_back, bare_rip, bare_base, rip_place, sib_place, bare_place, sib_none, sib_some, base_none, base_some, no_base_place, index_place, both_place, sib_back, base_low, long_disp, plain_disp, cases_both, sib_one, sib_four, sib_two, lex_one}
+use Rattle.x86_encode.proofs.Places.{IsDisp, at_place, mem_of, x_cases, b_cases, four_back, bare_rip, bare_base, rip_place, sib_place, bare_place, sib_none, sib_some, base_none, base_some, no_base_place, index_place, both_place, sib_back, base_low, long_disp, plain_disp, cases_both, sib_one, sib_two}
 use Rattle.x86_encode.proofs.Again.{Again, again_rip, again_bare, again_sib, again_neither, again_index, again_both}
 
 carry : (mem mem' : Mem) (pl pl' : Place) (rex : Option Rex) (mid : ℕ) → mem ≡ mem' → pl ≡ pl' → rex_x rex ≡ eight pl.x → rex_base rex ≡ eight pl.b → (rex_x rex ≡ eight pl'.x → rex_base rex ≡ eight pl'.b → Again mem' pl' rex mid) → Again mem pl rex mid

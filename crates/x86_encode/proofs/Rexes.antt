@@ -1,11 +1,9 @@
 -- The REX byte and the prefixes of a plain spelling.
-use Rattle.std.proofs.Common.{◌≡◌, ℕ, zero, suc, ◌+◌, ◌-◌, ◌*◌, ◌/◌, ◌%◌, ◌<◌, ◌≤◌, Bool, true, false, cond, List, [], ◌∷◌, ◌++◌, length, Option, Some, None, refl, sym, ap, subst, ◌∙◌, arith, ◌⊎◌, inl, inr}
-use Rattle.std.specs.Prelude.{◌&&◌, ◌||◌, nat_lt, nat_le, ◌==◌}
-use Rattle.std.proofs.lemmas.Bool.{cases_Bool, and_parts, leb-true, ltb-true, eqb-true, or_parts, or_from, false_from_ne_true}
-use Rattle.std.proofs.lemmas.List.{length-append}
-use Rattle.vm_law.specs.declared.head.Prefixes.{Prefixes}
+use Rattle.std.proofs.Common.{◌≡◌, ℕ, ◌+◌, ◌*◌, ◌/◌, ◌%◌, ◌<◌, ◌≤◌, Bool, true, false, cond, List, [], ◌∷◌, length, Option, Some, None, refl, sym, ap, subst, ◌∙◌, arith, inl, inr}
+use Rattle.std.specs.Prelude.{◌||◌}
+use Rattle.std.proofs.lemmas.Bool.{cases_Bool, and_parts, leb-true, ltb-true, eqb-true, or_from, false_from_ne_true}
 use Rattle.vm_law.specs.declared.head.Rex.{Rex}
-use Rattle.vm_law.specs.Rows.{no_prefix, add_prefix, is_rex, rex_of, rex_w, rex_b, implies, clashes}
+use Rattle.vm_law.specs.Rows.{no_prefix, add_prefix, is_rex, rex_of, rex_w}
 use Rattle.vm_law.specs.Meaning.{eight, rex_r, rex_x, rex_base}
 use Rattle.vm_law.specs.Grammar.{IsRex, ArePrefixes}
 use Rattle.x86_encode.specs.Order.{lex_le}

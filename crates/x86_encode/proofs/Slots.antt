@@ -1,17 +1,15 @@
 -- What an operation keeps of the operands, the condition and the number that it is made of.
-use Rattle.std.proofs.Common.{◌≡◌, ℕ, Bool, true, false, List, [], ◌∷◌, Option, Some, None, refl, sym, ap, ◌∙◌}
-use Rattle.std.specs.Prelude.{ℤ, pos, ◌&&◌, ◌||◌}
-use Rattle.std.proofs.Common.{◌⊎◌, inl, inr}
+use Rattle.std.proofs.Common.{◌≡◌, ℕ, Bool, true, false, List, refl, sym, ap, ◌∙◌}
+use Rattle.std.specs.Prelude.{ℤ, pos, ◌||◌}
+use Rattle.std.proofs.Common.{inl, inr}
 use Rattle.std.proofs.lemmas.Bool.{or_cases}
 use Rattle.vm_law.specs.declared.insn.Width.{Width}
 use Rattle.vm_law.specs.declared.insn.Width.TheVariants as width
-use Rattle.vm_law.specs.declared.insn.Mem.{Mem}
 use Rattle.vm_law.specs.declared.insn.Loc.{Loc}
 use Rattle.vm_law.specs.declared.insn.Loc.TheVariants as loc
 use Rattle.vm_law.specs.declared.insn.Src.{Src}
 use Rattle.vm_law.specs.declared.insn.Src.TheVariants as src
 use Rattle.vm_law.specs.declared.insn.Op.{Op}
-use Rattle.vm_law.specs.declared.insn.Op.TheVariants as op
 use Rattle.vm_law.specs.declared.table.Form.{Form}
 use Rattle.vm_law.specs.declared.table.Form.TheVariants as form
 use Rattle.vm_law.specs.declared.table.OpKind.{OpKind}

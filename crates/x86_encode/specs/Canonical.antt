@@ -1,5 +1,5 @@
 -- The canonical spelling of an instruction: the least of all its spellings.
-use Rattle.std.specs.Prelude.{◌≡◌, ℕ, ◌≤◌, ◌↔◌, true, List, ◌++◌, length, take, Contains, Result, Ok, Err, IfOk}
+use Rattle.std.specs.Prelude.{◌≡◌, ℕ, ◌≤◌, ◌↔◌, true, List, length, take, Contains, Result, Ok, Err, IfOk}
 use Rattle.vm_law.specs.declared.insn.Insn.{Insn}
 use Rattle.vm_law.specs.declared.table.Row.{Row}
 use Rattle.vm_law.specs.declared.table.TheConstants.{ROWS}

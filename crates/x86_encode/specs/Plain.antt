@@ -1,7 +1,6 @@
 -- The plain spelling of an instruction by a row, where the row can spell it.
 use Rattle.std.specs.Prelude.{ℕ, ◌+◌, ◌*◌, ◌%◌, ℤ, pos, Bool, true, false, ◌&&◌, ◌||◌, nat_lt, nat_le, Option, Some, None, List, [], ◌∷◌, ◌++◌, take, if◌then◌else◌}
 use Rattle.std.specs.Int.{w64, cast_unsigned, to_le_bytes}
-use Rattle.vm_law.specs.declared.head.Prefixes.{Prefixes}
 use Rattle.vm_law.specs.declared.head.Rex.{Rex}
 use Rattle.vm_law.specs.declared.head.Head.{Head}
 use Rattle.vm_law.specs.declared.insn.Width.{Width}

@@ -1,5 +1,5 @@
 -- The least of the plain spellings over the rows.
-use Rattle.std.specs.Prelude.{◌≡◌, ℕ, true, Bool, Option, Some, None, List, Contains, length, if◌then◌else◌}
+use Rattle.std.specs.Prelude.{◌≡◌, ℕ, true, Option, Some, None, List, Contains, length, if◌then◌else◌}
 use Rattle.vm_law.specs.declared.insn.Insn.{Insn}
 use Rattle.vm_law.specs.declared.table.Row.{Row}
 use Rattle.vm_law.specs.Rows.{fits}

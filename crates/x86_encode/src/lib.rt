@@ -9,8 +9,6 @@
 //! sections 2.1 to 2.2 and appendix A; that the least is taken is this project's own rule.
 #![tactic(auto)]
 
-#[cfg(test)]
-mod cases;
 mod encoder;
 mod labels;
 mod least;
@@ -18,8 +16,11 @@ mod operands;
 mod place;
 mod plain;
 mod same;
-#[cfg(test)]
-mod tests;
 
 pub use encoder::{encode, encode_labelled, encoded_decodes, labelled, spelled};
 pub use labels::Labels;
+
+#[cfg(test)]
+mod cases;
+#[cfg(test)]
+mod tests;

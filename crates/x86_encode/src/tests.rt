@@ -90,12 +90,13 @@ fn is_read_back(insn: &Insn, len: u8) -> bool {
 
 const LEAD: [u8; 4] = [0x66, 0x40, 0x48, 0x4F];
 
-/// How many of a row's samples, up to ten, are instructions, or 0 where one isn't read back.
+/// How many of a row's samples, up to thirty, are instructions, or 0 where one isn't read back.
 fn read_back(row: &Row) -> u32 {
     let mut count = 0;
     for number in 0..1024usize {
-        if count < 10 {
-            let bytes = sample(row, LEAD[number % 4], (number / 4) as u8);
+        if count < 30 {
+            let modrm = (number / 4 * 101 % 256) as u8;
+            let bytes = sample(row, LEAD[number % 4], modrm);
             if let Ok((insn, len)) = decode(&bytes) {
                 if !is_read_back(&insn, len) {
                     return 0;

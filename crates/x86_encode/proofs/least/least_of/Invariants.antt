@@ -1,4 +1,4 @@
-use Rattle.std.proofs.Common.{◌≡◌, take, MatchOption}
+use Rattle.std.proofs.Common.{take, MatchOption}
 use Rattle.x86_encode.specs.Selecting.{IsLeast, NoneFits}
 use Rattle.x86_encode.proofs.least.least_of.Given as goal
 
