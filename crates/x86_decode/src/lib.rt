@@ -10,10 +10,10 @@
 mod decoder;
 mod fault;
 mod index;
-mod meaning;
-mod operand;
+pub mod meaning;
+pub mod operand;
 mod parts;
-mod reading;
+pub mod reading;
 #[cfg(test)]
 mod tests;
 

@@ -41,7 +41,7 @@ fn byte_of(bytes: &[u8]) -> u8
 
 /// The width of the operand in r/m, which MOVZX, MOVSX and MOVSXD extend.
 #[tactic(auto, unfolding(vm_law::specs::Meaning::source_width))]
-fn source_width(kind: OpKind, width: Width) -> Width
+pub fn source_width(kind: OpKind, width: Width) -> Width
     ensures { result ≡ source_width kind width }
 {
     match kind {
@@ -99,7 +99,7 @@ fn number_of(place: Loc) -> u8
 }
 
 /// The place of an operand that is no immediate.
-fn place_of(operand: Src) -> Loc
+pub fn place_of(operand: Src) -> Loc
     ensures { result ≡ place_of operand }
 {
     match operand {
@@ -196,14 +196,7 @@ fn op_of(kind: OpKind, condition: u8, modrm: u8, first: Loc, second: Src, imm: &
 
 /// The instruction that the parts of a spelling mean.
 #[tactic(auto, unfolding(vm_law::specs::Meaning::meaning))]
-pub(crate) fn meaning(
-    row: &Row,
-    head: &Head,
-    modrm: &[u8],
-    sib: &[u8],
-    disp: &[u8],
-    imm: &[u8],
-) -> Insn
+pub fn meaning(row: &Row, head: &Head, modrm: &[u8], sib: &[u8], disp: &[u8], imm: &[u8]) -> Insn
     requires { row.now.byte ≤ head.now.byte }
     ensures { result ≡ meaning row.now head.now modrm.now sib.now disp.now imm.now }
 {

@@ -54,7 +54,7 @@ fn word_or_long(size: bool) -> Width
 
 /// The width of a row's operands.
 #[tactic(auto, unfolding(vm_law::specs::Meaning::width_of))]
-pub(crate) fn width_of(class: Class, prefixes: Prefixes, rex: Option<Rex>) -> Width
+pub fn width_of(class: Class, prefixes: Prefixes, rex: Option<Rex>) -> Width
     ensures { result ≡ width_of class prefixes rex }
 {
     match class {
@@ -73,7 +73,7 @@ pub(crate) fn width_of(class: Class, prefixes: Prefixes, rex: Option<Rex>) -> Wi
 }
 
 /// How many SIB bytes stand behind a ModRM byte.
-pub(crate) fn sib_len(modrm: &[u8]) -> usize
+pub fn sib_len(modrm: &[u8]) -> usize
     ensures { result ≡ sib_len modrm.now }
 {
     match modrm {
@@ -94,7 +94,7 @@ fn base_field(modrm: u8, sib: &[u8]) -> u8
 
 /// How many bytes the displacement has.
 #[tactic(auto, unfolding(vm_law::specs::Meaning::disp_len))]
-pub(crate) fn disp_len(modrm: &[u8], sib: &[u8]) -> usize
+pub fn disp_len(modrm: &[u8], sib: &[u8]) -> usize
     ensures { result ≡ disp_len modrm.now sib.now }
 {
     let [byte, ..] = modrm else {
@@ -114,7 +114,7 @@ pub(crate) fn disp_len(modrm: &[u8], sib: &[u8]) -> usize
 
 /// How many bytes the immediate has.
 #[tactic(auto, unfolding(vm_law::specs::Meaning::imm_len))]
-pub(crate) fn imm_len(imm: Imm, width: Width) -> usize
+pub fn imm_len(imm: Imm, width: Width) -> usize
     ensures { result ≡ imm_len imm width }
 {
     match imm {

@@ -120,7 +120,7 @@ fn rex_b(rex: Option<Rex>) -> bool
 }
 
 /// Whether 66 may stand.
-fn takes_size(class: Class) -> bool
+pub fn takes_size(class: Class) -> bool
     ensures { result ≡ takes_size class }
 {
     match class {
@@ -196,7 +196,7 @@ fn fits_side(side: Side, modrm: u8) -> bool
 
 /// Whether a row has the opcode, with no ModRM byte or with this one.
 #[tactic(auto, unfolding(vm_law::specs::Rows::fits))]
-fn fits(row: &Row, head: &Head, modrm: &[u8]) -> bool
+pub fn fits(row: &Row, head: &Head, modrm: &[u8]) -> bool
     ensures { result ≡ fits row.now head.now modrm.now }
 {
     match modrm {

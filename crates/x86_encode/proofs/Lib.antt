@@ -1,0 +1,14 @@
+pub mod Again
+pub mod Below
+pub mod Best
+pub mod Canon
+pub mod Fields
+pub mod Minimum
+pub mod Numbers
+pub mod Operand
+pub mod Order
+pub mod Places
+pub mod Registers
+pub mod Rexes
+pub mod Slots
+pub mod Widths
