@@ -1,7 +1,8 @@
 -- A whole journal: what is read is its one spelling, and its spelling is read.
-use Rattle.std.proofs.Common.{◌≡◌, inl, inr, ℕ, zero, ◌+◌, ◌^◌, ◌<◌, ◌==◌, Bool, true, false, cond, List, [], ◌∷◌, ◌++◌, length, get_or, Result, Ok, Err, refl, sym, ap, ap₂, ◌∙◌, arith, eqb-true}
+use Rattle.std.proofs.Common.{◌≡◌, inl, inr, ℕ, zero, ◌+◌, ◌^◌, ◌<◌, ◌==◌, Bool, true, false, cond, List, [], ◌∷◌, ◌++◌, length, get_or, Result, Ok, Err, refl, sym, ap, ap₂, subst, ◌∙◌, arith, eqb-true}
 use Rattle.std.specs.List.{flat_map, AllByRecursion}
 use Rattle.std.proofs.lemmas.Bool.{cases_lt}
+use Rattle.std.proofs.lemmas.List.Elements.{recursion_from_All}
 use Rattle.std.proofs.lemmas.List.{get_or_default, nil_from_length, append-nil}
 use Rattle.vm_law.specs.declared.reading.Refusal.{Refusal}
 use Rattle.vm_law.specs.declared.journal.Signed.{Signed}
@@ -47,3 +48,16 @@ whole_again ys fits =
     let all = with3_again (text_at Short Gate gate) (λ _. gate) Any (text_reads Short Gate gate) (text_at Short Magic magic) (λ _. magic) Any (text_reads Short Magic magic) (counted Short 8 signed_at) counted_text AreEntries entries_read last tt tt ys [] tt tt fits in
     let bare : journal_at (spelling ys) ≡ Ok (ys, []) = ap journal_at (sym (append-nil (spelling ys))) ∙ all in
     rw bare refl
+
+-- ---- entries that a program holds
+
+pub fits_one_more : (xs : List Signed) (i : ℕ) (s : Signed) → i < length xs → FitsSigned (get_or xs i s) → ((k : ℕ) (d : Signed) → k < i → FitsSigned (get_or xs k d)) → (k : ℕ) (d : Signed) → k < i + 1 → FitsSigned (get_or xs k d)
+fits_one_more xs i s lt here below k d h = elim (cases_lt k i) [
+  | inl less ↦ below k d less
+  | inr above ↦
+      let same : k ≡ i = omega arith in
+      rw (same, get_or_default xs i d s lt) here
+]
+
+pub held_fit : (xs ys : List Signed) → xs ≡ ys → length ys < 256 ^ 8 → ((k : ℕ) (d : Signed) → k < length xs → FitsSigned (get_or xs k d)) → AreEntries ys
+held_fit xs ys e short each = (short, subst (λ (zs : List Signed). AllByRecursion FitsSigned zs) e (recursion_from_All FitsSigned xs each))

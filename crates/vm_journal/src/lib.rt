@@ -9,9 +9,11 @@
 
 mod fault;
 mod fixed;
+mod law;
 mod reading;
 mod writing;
 
 pub use fault::{JournalError, JournalKind};
+pub use law::{entries_fit, one_spelling, read_back};
 pub use reading::decode;
 pub use writing::encode;

@@ -1,5 +1,6 @@
 ghost use Rattle.std.specs.Prelude.{◌≡◌, ◌++◌, ◌∷◌, [], length, OnOk, IfOk, Ok};
-ghost use Rattle.vm_journal.specs.Spelling.{byte, word, dword, qword, entry_bytes, signed_bytes, spelling};
+ghost use Rattle.vm_journal.specs.Spelling.{byte, word, dword, qword, entry_bytes, signed_bytes, spelling, FitsEntry, FitsSigned};
+ghost use Rattle.vm_journal.specs.Reading.{whole};
 
 use byteorder::{ByteOrder, LittleEndian};
 use std::alloc::Global;
@@ -64,7 +65,8 @@ fn put_byte(out: &mut Vec<u8>, b: u8) -> Result<(), OutOfMemory>
 }
 
 fn put_entry(out: &mut Vec<u8>, entry: Entry) -> Result<(), OutOfMemory>
-    ensures { OnOk result (out.new.items ≡ out.old.items ++ entry_bytes entry) }
+    ensures put { OnOk result (out.new.items ≡ out.old.items ++ entry_bytes entry) }
+    ensures fits { FitsEntry entry }
 {
     match entry {
         Entry::Claim { cpu } => put_tag(out, 1, cpu),
@@ -100,7 +102,8 @@ fn put_entry(out: &mut Vec<u8>, entry: Entry) -> Result<(), OutOfMemory>
 }
 
 fn put_signed(out: &mut Vec<u8>, signed: Signed) -> Result<(), OutOfMemory>
-    ensures { OnOk result (out.new.items ≡ out.old.items ++ signed_bytes signed) }
+    ensures put { OnOk result (out.new.items ≡ out.old.items ++ signed_bytes signed) }
+    ensures fits { OnOk result (FitsSigned signed) }
 {
     put_u16(out, signed.by)?;
     put_entry(out, signed.entry)
@@ -108,7 +111,9 @@ fn put_signed(out: &mut Vec<u8>, signed: Signed) -> Result<(), OutOfMemory>
 
 /// The one spelling of a journal.
 pub fn encode(alloc: Global, journal: &Journal) -> Result<Vec<u8>, OutOfMemory>
-    ensures spelled { IfOk result (λ v. v.items ≡ spelling journal.now) }
+    ensures spelled { IfOk result (λ bytes. bytes.items ≡ spelling journal.now) }
+    // It is read as this journal, which `decode` gives back.
+    ensures read_back { IfOk result (λ bytes. whole bytes.items ≡ Ok journal.now) }
 {
     let mut out = Vec::new(alloc);
     out.extend_from_slice(b"\x01VMJRNL1\n")?;
