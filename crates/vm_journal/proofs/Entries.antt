@@ -1,12 +1,11 @@
 -- The laws of each entry: what is read is spelled so, and what is spelled so is read again.
-use Rattle.std.proofs.Common.{◌≡◌, ℕ, suc, ◌+◌, ◌^◌, ◌<◌, ◌==◌, Bool, true, false, cond, ltb, leb, ◌&&◌, ◌*◌, ◌%◌, List, [], ◌∷◌, ◌++◌, length, Ok, Err, refl, sym, subst, ◌∙◌, arith, eqb-true}
+use Rattle.std.proofs.Common.{◌≡◌, ℕ, suc, ◌+◌, ◌==◌, Bool, true, false, cond, ltb, leb, ◌&&◌, ◌*◌, ◌%◌, List, [], ◌∷◌, ◌++◌, length, Ok, refl, subst, ◌∙◌, arith, eqb-true}
 use Rattle.std.proofs.lemmas.Bool.{le-ltb}
 use Rattle.vm_law.specs.declared.journal.EndCause.{EndCause}
 use Rattle.vm_law.specs.declared.journal.EndCause.TheVariants.{Budget, Outside}
 use Rattle.vm_law.specs.declared.journal.Entry.{Entry}
 use Rattle.vm_law.specs.declared.journal.Entry.TheVariants.{Claim, Start, Enter, Slice, Step, Exit, Sleep, Wake, Yield, Turn, Meet, Pull, Begin, Move, Hold, Put, Finish, Feed, Wish, Done, End, Close}
-use Rattle.vm_law.specs.declared.journal.Signed.{Signed}
-use Rattle.vm_law.specs.Reader.{Read, Reader, number, with1, with2}
+use Rattle.vm_law.specs.Reader.{Read, Reader, with1, with2}
 use Rattle.vm_law.proofs.Numbers.{IsBytes}
 use Rattle.vm_law.proofs.Readers.{Takes, Takes-then, Reads, Made, done, done_is, then_ok, number_reads, with1_takes, with1_again, with2_takes, with2_again, with3_takes, with3_again}
 use Rattle.vm_journal.specs.declared.fault.JournalKind.{JournalKind}

@@ -1,5 +1,5 @@
 -- The laws of a fixed text, and the loop that reads one.
-use Rattle.std.proofs.Common.{◌≡◌, ℕ, zero, suc, length, drop, get_or, cond, ltb, Bool, ◌==◌, true, false, add-one, eq-eqb, eqb-true, ◌-◌, ◌+◌, ◌≤◌, ◌<◌, List, [], ◌∷◌, ◌++◌, Ok, Err, refl, sym, ap, ◌∙◌, arith}
+use Rattle.std.proofs.Common.{◌≡◌, ℕ, zero, suc, length, drop, get_or, cond, ltb, Bool, ◌==◌, true, false, add-one, eq-eqb, eqb-true, ◌+◌, ◌≤◌, ◌<◌, List, [], ◌∷◌, ◌++◌, Ok, Err, refl, sym, ap, ◌∙◌, arith}
 use Rattle.std.proofs.lemmas.List.{drop_all, length-drop, length-append}
 use Rattle.std.proofs.lemmas.Bool.{le-ltb}
 use Rattle.std.proofs.lemmas.Bool.Decides.{nat_tests}

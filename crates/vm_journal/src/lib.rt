@@ -17,3 +17,6 @@ pub use fault::{JournalError, JournalKind};
 pub use law::{entries_fit, one_spelling, read_back};
 pub use reading::decode;
 pub use writing::encode;
+
+#[cfg(test)]
+mod tests;

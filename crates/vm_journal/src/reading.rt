@@ -172,6 +172,7 @@ fn read_entries(alloc: Global, count: u64, bytes: &[u8]) -> Result<(Vec<Signed>,
 }
 
 const GATE: [u8; 1] = [1];
+
 const MAGIC: [u8; 8] = *b"VMJRNL1\n";
 
 #[tactic(auto, unfolding(crate::specs::Reading::journal_at))]

@@ -95,8 +95,12 @@ fn put_entry(out: &mut Vec<u8>, entry: Entry) -> Result<(), OutOfMemory>
             put_byte(out, 20)?;
             put_u16(out, k)
         }
-        Entry::End { why: EndCause::Budget } => put_tag(out, 21, 1),
-        Entry::End { why: EndCause::Outside } => put_tag(out, 21, 2),
+        Entry::End {
+            why: EndCause::Budget,
+        } => put_tag(out, 21, 1),
+        Entry::End {
+            why: EndCause::Outside,
+        } => put_tag(out, 21, 2),
         Entry::Close => put_byte(out, 22),
     }
 }

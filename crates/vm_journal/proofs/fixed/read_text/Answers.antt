@@ -1,6 +1,5 @@
 use Rattle.std.proofs.Common.{arith, ℕ, ◌≡◌, ◌∙◌, length, ap, drop}
 use Rattle.std.proofs.lemmas.List.{length-take, length-drop, take_rest}
-use Rattle.vm_journal.specs.Fixed.{same}
 use Rattle.vm_journal.proofs.Texts.{same_on, same_faults, same_ends}
 use Rattle.vm_journal.proofs.fixed.read_text.Goals as goal
 
