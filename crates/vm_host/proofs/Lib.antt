@@ -1,0 +1,3 @@
+pub mod GivenBack
+pub mod Pasts
+pub mod Sectors

@@ -1,0 +1,43 @@
+-- What a crash at some moment may leave in a file.
+use Rattle.std.specs.Prelude.{◌≡◌, ◌≢◌, ◌⊎◌, ℕ, ◌+◌, ◌≤◌, ◌<◌, ◌-◌, min, max, List, length, take, drop, Option, Some, Result, OnOk, OnErr}
+use Rattle.vm_host.specs.declared.host.HostFault.{HostFault}
+
+-- a crash leaves this and nothing else
+abbrev pub Only : List ℕ → (List ℕ → Type 0) → Type 0
+Only file outcomes = (b : List ℕ) → outcomes b → b ≡ file
+
+-- a crash now may leave what each file reads as
+abbrev pub ReadsNow : ℕ → (List ℕ → ℕ → List ℕ → Type 0) → (List ℕ → Option (List ℕ)) → Type 0
+ReadsNow now left file = (q b : List ℕ) → file q ≡ Some b → left q now b
+
+-- Time goes on over a call on the file of this name. `left q t b`: a crash since t may have left b in q.
+pub record Passes (name : List ℕ) (before now : ℕ) (old new : List ℕ → ℕ → List ℕ → Type 0) : Type 0 where
+  pub later : before ≤ now
+  -- since an earlier moment there is what there was, and what came since the call began
+  pub nothing_else : (q : List ℕ) (t : ℕ) (b : List ℕ) → t ≤ before → new q t b → old q t b ⊎ new q before b
+  pub keeps : (q : List ℕ) (t : ℕ) (b : List ℕ) → t ≤ before → old q t b → new q t b
+  -- in the other files nothing came
+  pub others : (q : List ℕ) (b : List ℕ) → q ≢ name → new q before b → old q before b
+
+-- Time goes on over a call that adds nothing that a crash couldn't leave at its start.
+pub record AddsNothing (before now : ℕ) (old new : List ℕ → ℕ → List ℕ → Type 0) : Type 0 where
+  pub later : before ≤ now
+  pub nothing_else : (q : List ℕ) (t : ℕ) (b : List ℕ) → t ≤ before → new q t b → old q t b
+  pub keeps : (q : List ℕ) (t : ℕ) (b : List ℕ) → t ≤ before → old q t b → new q t b
+
+-- after a write of n bytes that a crash cuts short: the same outside the range and below the old end, and no longer than the greater end
+pub record Torn (at n : ℕ) (old new : List ℕ) : Type 0 where
+  pub before : take (min at (length old)) new ≡ take at old
+  pub after : take (length old - (at + n)) (drop (at + n) new) ≡ drop (at + n) old
+  pub no_shorter : length old ≤ length new
+  pub no_longer : length new ≤ max (length old) (at + n)
+
+abbrev pub AddsTorn : ℕ → ℕ → (List ℕ → Type 0) → (List ℕ → Type 0) → Type 0
+AddsTorn at n old new = (b : List ℕ) → new b → old b ⊎ ((d : List ℕ) × old d × Torn at n d b)
+
+-- the moment of a `make` of this name
+pub record Makes {T : Type 0} (name : List ℕ) (before now : ℕ) (old new : List ℕ → ℕ) (result : Result T HostFault) : Type 0 where
+  pub rises : OnOk result (before < now)
+  pub made : OnOk result (new name ≡ now)
+  pub not_made : OnErr result (new name ≡ old name)
+  pub others : (q : List ℕ) → q ≢ name → new q ≡ old q
