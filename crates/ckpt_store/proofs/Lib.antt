@@ -1,0 +1,3 @@
+mod Moments
+mod Pieces
+mod Torns
