@@ -1,7 +1,11 @@
 -- How a file is read piece by piece.
-use Rattle.std.proofs.Common.{◌≡◌, Option, Some, None, IsSomeAnd, refl, ℕ, ◌+◌, ◌<◌, List, ◌++◌, length, take, sym, ◌∙◌, ap, arith, length-append, length-take}
+use Rattle.std.proofs.Common.{inl, inr, Result, Ok, Err, ◌≤◌, ◌≡◌, Option, Some, None, IsSomeAnd, refl, ℕ, ◌+◌, ◌<◌, List, ◌++◌, length, take, sym, ◌∙◌, ap, arith, length-append, length-take}
 use Rattle.std.proofs.Math.Seq.{take-add}
 use Rattle.std.proofs.lemmas.List.{take_all}
+use Rattle.std.proofs.lemmas.Bool.{cases_lt}
+use Rattle.vm_host.specs.declared.host.HostFault.{HostFault}
+use Rattle.vm_host.specs.declared.host.HostFault.TheVariants.{Failed, Missing, Memory}
+use Rattle.vm_host.specs.Counts.{HasCause}
 use Rattle.vm_host.specs.Files.{ReadsFrom}
 use Rattle.vm_host.specs.Crash.{AddsNothing}
 
@@ -36,3 +40,57 @@ read_all bytes file buffer so_far room reads =
 pub there : {X : Type 0} (o : Option X) (P : X → Type 0) → IsSomeAnd o P → (x : X) × (o ≡ Some x) × P x
 there (Some x) P h = (x, refl, h)
 there None P h = absurd h
+
+-- ---- counts of faults
+
+abbrev pub done_well : Result (Unit {0}) HostFault
+done_well = Ok tt
+
+abbrev pub refused : HostFault → Result (Unit {0}) HostFault
+refused e = Err e
+
+abbrev pub out_of_memory : Result (Unit {0}) HostFault
+out_of_memory = Err Memory
+
+abbrev error : {T : Type 0} → HostFault → Result T HostFault
+error e = Err e
+
+-- a call that went well raised none
+pub unchanged : {T : Type 0} (f g m n : ℕ) (x : T) → HasCause f g m n (Ok x) → (g ≡ f) × (n ≡ m)
+unchanged {T} f g m n x cause =
+    let faults : g ≤ f = elim (cases_lt f g) [ inl rose ↦ let no : Ok x ≡ Err Failed = cause.only_failed rose in absurd cc | inr le ↦ le ] in
+    let misses : n ≤ m = elim (cases_lt m n) [ inl rose ↦ let no : Ok x ≡ Err Missing = cause.only_missing rose in absurd cc | inr le ↦ le ] in
+    (omega (arith, cause.later, faults), omega (arith, cause.later_misses, misses))
+
+-- nothing failed
+pub no_cause : (f g m n : ℕ) → g ≡ f → n ≡ m → HasCause f g m n done_well
+no_cause f g m n faults misses = record {
+  later = omega arith;
+  later_misses = omega arith;
+  failed = λ h. absurd cc;
+  missing = λ h. absurd cc;
+  only_failed = λ rose. absurd (omega arith);
+  only_missing = λ rose. absurd (omega arith);
+}
+
+-- memory was refused
+pub no_memory : (f g m n : ℕ) → g ≡ f → n ≡ m → HasCause f g m n out_of_memory
+no_memory f g m n faults misses = record {
+  later = omega arith;
+  later_misses = omega arith;
+  failed = λ h. absurd cc;
+  missing = λ h. absurd cc;
+  only_failed = λ rose. absurd (omega arith);
+  only_missing = λ rose. absurd (omega arith);
+}
+
+-- a fault that is handed on
+pub handed_on : {T : Type 0} (f g h m n o : ℕ) (e : HostFault) → g ≡ f → n ≡ m → HasCause {T = T} g h n o (Err e) → HasCause f h m o (refused e)
+handed_on {T} f g h m n o e faults misses cause = record {
+  later = omega (arith, cause.later);
+  later_misses = omega (arith, cause.later_misses);
+  failed = λ is. let same : e ≡ Failed = cc in rw (← faults) (cause.failed (ap (λ (x : HostFault). error {T = T} x) same));
+  missing = λ is. let same : e ≡ Missing = cc in rw (← misses) (cause.missing (ap (λ (x : HostFault). error {T = T} x) same));
+  only_failed = λ rose. let was : error {T = T} e ≡ error Failed = cause.only_failed (omega arith) in let same : e ≡ Failed = cc in ap refused same;
+  only_missing = λ rose. let was : error {T = T} e ≡ error Missing = cause.only_missing (omega arith) in let same : e ≡ Missing = cc in ap refused same;
+}

@@ -17,3 +17,6 @@ mod saving;
 pub use law::accepted_is_whole;
 pub use loading::{LoadFault, load};
 pub use saving::save;
+
+#[cfg(test)]
+mod tests;

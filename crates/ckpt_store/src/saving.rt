@@ -4,7 +4,7 @@ ghost use Rattle.vm_host.specs.declared.host.HostFault.TheVariants.{Missing};
 ghost use Rattle.vm_host.specs.Told.{WhereTold};
 ghost use Rattle.vm_host.specs.Counts.{HasCause};
 ghost use Rattle.vm_host.specs.Files.{LeavesOthers, Written};
-ghost use Rattle.vm_host.specs.Crash.{Passes, AddsTorn, Only};
+ghost use Rattle.vm_host.specs.Crash.{Passes, AddsTorn, Only, ReadsNow};
 ghost use Rattle.ckpt_store.specs.Gate.{IsShutOrWhole};
 
 use std::alloc::Global;
@@ -28,6 +28,7 @@ fn write_through<H: Host>(
     ensures image_faults { H.image_faults host.new ≡ H.image_faults host.old }
     ensures time { WhereTold (H.tells host.old) (Passes name.now (H.moment host.old) (H.moment host.new)
         (H.left host.old) (H.left host.new)) }
+    ensures reads { WhereTold (H.tells host.old) (ReadsNow (H.moment host.new) (H.left host.new) (H.file host.new)) }
     ensures made { WhereTold (H.tells host.old) (H.made host.new ≡ H.made host.old) }
     ensures crash { WhereTold (H.tells host.old) (AddsTorn at (length piece.now)
         (H.left host.old name.now (H.moment host.old)) (H.left host.new name.now (H.moment host.old))) }
@@ -62,6 +63,7 @@ pub fn save<H: Host>(alloc: Global, host: &mut H, name: &str, text: &[u8]) -> Re
         (b : List ℕ) → H.left host.new name.now (H.made host.new name.now) b → IsShutOrWhole text.now b) }
     ensures time { WhereTold (H.tells host.old) (Passes name.now (H.moment host.old) (H.moment host.new)
         (H.left host.old) (H.left host.new)) }
+    ensures reads { WhereTold (H.tells host.old) (ReadsNow (H.moment host.new) (H.left host.new) (H.file host.new)) }
 {
     host.make(alloc, name)?;
     write_through(alloc, host, name, 0, &[0])?;

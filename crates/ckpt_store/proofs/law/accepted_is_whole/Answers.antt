@@ -1,4 +1,4 @@
-use Rattle.std.proofs.Common.{◌≡◌, ◌≢◌, inl, inr, ℕ, ◌≤◌, List, [], ◌∷◌, length, refl, sym, ap, subst, arith}
+use Rattle.std.proofs.Common.{◌≡◌, inl, inr, ℕ, List, ◌∷◌, length, refl, ap, subst, arith}
 use Rattle.ckpt_store.specs.Gate.{IsShut, IsShutOrWhole}
 use Rattle.ckpt_store.proofs.law.accepted_is_whole.Goals as goal
 

@@ -1,5 +1,6 @@
 use Rattle.std.proofs.Common.{◌≡◌, ◌<◌, length, Some, ℕ, List, take, sym, ◌∙◌, ap, subst, arith, length-take}
-use Rattle.ckpt_store.proofs.Pieces.{still_nothing, read_more, read_all, there}
+use Rattle.std.proofs.lemmas.Result.{err_from_is_err_and}
+use Rattle.ckpt_store.proofs.Pieces.{still_nothing, read_more, read_all, there, unchanged, no_cause, no_memory, handed_on}
 use Rattle.vm_host.specs.Files.{ReadsFrom}
 use Rattle.ckpt_store.proofs.loading.load.Goals as goal
 
@@ -44,8 +45,8 @@ loop-buffer-preserved g c =
       stands = λ told _.
           let found = there _ _ (c.in_ok-count.ensures.value (inv.told ∙ told)) in
           (found.0, ap (λ (F : List ℕ → _). F c.args.name.now) (sym (inv.files told)) ∙ found.1);
-      faults = omega arith;
-      misses = omega arith;
+      faults = (unchanged _ _ _ _ _ c.in_ok-count.ensures.cause).0 ∙ inv.faults;
+      misses = (unchanged _ _ _ _ _ c.in_ok-count.ensures.cause).1 ∙ inv.misses;
       image_faults = c.read_at.ensures.image_faults ∙ inv.image_faults;
       made = λ told. c.read_at.ensures.made (inv.told ∙ told) ∙ inv.made told;
       crash = λ told. still_nothing _ _ _ _ _ _ (inv.crash told) (c.read_at.ensures.crash (inv.told ∙ told));
@@ -54,3 +55,22 @@ loop-buffer-preserved g c =
 pub returns-in_err-extend_from_slice-clause-crash : goal.returns-in_err-extend_from_slice-clause-crash
 returns-in_err-extend_from_slice-clause-crash g c = λ told.
     still_nothing _ _ _ _ _ _ (c.loop-buffer.invariant.crash told) (c.read_at.ensures.crash (c.loop-buffer.invariant.told ∙ told))
+
+pub returns-then-at-most-clause-cause : goal.returns-then-at-most-clause-cause
+returns-then-at-most-clause-cause g c = no_cause _ _ _ _ c.loop-buffer.invariant.faults c.loop-buffer.invariant.misses
+
+pub returns-in_err-count-clause-cause : goal.returns-in_err-count-clause-cause
+returns-in_err-count-clause-cause g c =
+    let p = err_from_is_err_and c.from_residual.result c.from_residual.ensures.1 in
+    rw (p.1, p.2) (handed_on _ _ _ _ _ _ _ c.loop-buffer.invariant.faults c.loop-buffer.invariant.misses c.in_err-count.ensures.cause)
+
+pub returns-then-count-eq0-clause-cause : goal.returns-then-count-eq0-clause-cause
+returns-then-count-eq0-clause-cause g c =
+    let quiet = unchanged _ _ _ _ _ c.in_ok-count.ensures.cause in
+    no_cause _ _ _ _ (quiet.0 ∙ c.loop-buffer.invariant.faults) (quiet.1 ∙ c.loop-buffer.invariant.misses)
+
+pub returns-in_err-extend_from_slice-clause-cause : goal.returns-in_err-extend_from_slice-clause-cause
+returns-in_err-extend_from_slice-clause-cause g c =
+    let p = err_from_is_err_and c.from_residual-in_err-extend_from_slice.result c.from_residual-in_err-extend_from_slice.ensures.1 in
+    let quiet = unchanged _ _ _ _ _ c.in_ok-count.ensures.cause in
+    rw (p.1, p.2) (no_memory _ _ _ _ (quiet.0 ∙ c.loop-buffer.invariant.faults) (quiet.1 ∙ c.loop-buffer.invariant.misses))
