@@ -1,4 +1,5 @@
-ghost use Rattle.std.specs.Prelude.{◌≡◌, ◌∷◌, ◌+◌, [], List, length, IfOk, Ok};
+ghost use Rattle.std.specs.Prelude.{◌≡◌, ◌∷◌, ◌+◌, [], List, length, IfOk, Ok, ℕ};
+ghost use Rattle.ckpt_store.specs.Gate.{IsShutOrWhole};
 ghost use Rattle.vm_law.specs.declared.journal.Signed.{Signed};
 ghost use Rattle.vm_law.specs.Reader.{Gives, times, counted};
 ghost use Rattle.vm_journal.specs.Spelling.{spelling, AreEntries};
@@ -205,6 +206,8 @@ pub fn decode(alloc: Global, bytes: &[u8]) -> Result<Journal, JournalError>
     // What is spelled so is read, unless memory runs out.
     ensures only { (journal : List Signed) → AreEntries journal → bytes.now ≡ spelling journal
         → Answers (length bytes.now) result (Ok journal) }
+    // What a crash left of a text that was saved behind its gate, and is read, is that text.
+    ensures after_crash { IfOk result (λ _. (text : List ℕ) → IsShutOrWhole text bytes.now → bytes.now ≡ text) }
     // Which fault it is, and where.
     ensures exact { Answers (length bytes.now) result (whole bytes.now) }
 {

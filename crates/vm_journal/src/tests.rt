@@ -1,6 +1,8 @@
 use super::*;
+use ckpt_store::{load, save};
 use std::alloc::Global;
 use std::test::Fail;
+use vm_host::{HostFault, MemHost};
 use vm_law::{EndCause, Entry, Seq, Signed};
 
 /// The journal of a guest that writes one byte to the console and halts.
@@ -196,5 +198,44 @@ fn a_changed_byte_has_its_fault(rt: HostRuntime) -> Result<(), Fail> {
     let mut longer = Vec::from_slice(rt.alloc(), &RUN)?;
     longer.push(0)?;
     assert!(rt; fault(rt.alloc(), &longer) == Some((57, JournalKind::Trailing)));
+    Ok(())
+}
+
+#[test]
+fn a_save_that_stops_leaves_it_refused_or_whole(rt: HostRuntime) -> Result<(), Fail> {
+    let alloc = rt.alloc();
+    // how decoding the file ends where the call of this number fails: make, and then a write and a sync three times
+    let faults = [
+        Some((0, JournalKind::Gate)),
+        Some((0, JournalKind::Short)),
+        Some((0, JournalKind::Gate)),
+        Some((0, JournalKind::Gate)),
+        Some((0, JournalKind::Gate)),
+        Some((0, JournalKind::Gate)),
+        None,
+    ];
+    for (call, want) in faults.iter().enumerate() {
+        let mut host = MemHost::new(alloc);
+        host.put(alloc, "j", b"older")?;
+        host.fail(alloc, call as u64)?;
+        let answer = save(alloc, &mut host, "j", &RUN);
+        assert!(rt; answer == Err(HostFault::Failed), "call {call}");
+        let file = host.file("j").ok_or("the file is there")?;
+        let found = fault(alloc, file);
+        assert!(rt; found == *want, "call {call}");
+        assert!(rt; found.is_some() || file == RUN.as_slice(), "call {call}");
+    }
+    Ok(())
+}
+
+#[test]
+fn a_saved_journal_is_loaded(rt: HostRuntime) -> Result<(), Fail> {
+    let alloc = rt.alloc();
+    let mut host = MemHost::new(alloc);
+    let journal = Seq::from_slice(alloc, &run_entries())?;
+    save(alloc, &mut host, "j", &RUN)?;
+    let bytes = load(alloc, &mut host, "j", 57)?;
+    let back = decode(alloc, &bytes)?;
+    assert!(rt; back.as_slice() == journal.as_slice());
     Ok(())
 }
