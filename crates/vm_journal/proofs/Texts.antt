@@ -6,7 +6,7 @@ use Rattle.std.proofs.lemmas.Bool.Decides.{nat_tests}
 use Rattle.vm_law.specs.Reader.{Read, fault_at}
 use Rattle.vm_law.proofs.Numbers.{IsBytes}
 use Rattle.vm_law.proofs.Readers.{Takes, Reads, done_is}
-use Rattle.vm_journal.specs.Fixed.{same, text_at}
+use Rattle.vm_journal.specs.Fixed.{differs_at_once, same, text_at}
 
 -- ---- a loop over the text's bytes
 
@@ -65,7 +65,7 @@ text_takes : {K : Type 0} (short other : K) (text bytes rest : List ℕ) (u : Un
 unfolding text_at
 text_takes short other text bytes rest u fits e = go (ltb (length bytes) (length text)) e
   where
-    go : (b : Bool) → cond b (fault_at short bytes) (same short other text bytes) ≡ Ok (u, rest) → Takes bytes text rest
+    go : (b : Bool) → cond b (fault_at (cond (differs_at_once text bytes) other short) bytes) (same short other text bytes) ≡ Ok (u, rest) → Takes bytes text rest
     go true e = absurd cc
     go false e = same_takes short other text bytes rest u fits e
 

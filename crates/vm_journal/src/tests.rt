@@ -195,6 +195,9 @@ fn a_changed_byte_has_its_fault(rt: HostRuntime) -> Result<(), Fail> {
         let found = fault(rt.alloc(), &bytes);
         assert!(rt; found == Some((at, kind)), "{byte} at {place}");
     }
+    // A magic that is cut: the first byte differs, or only a later one does.
+    assert!(rt; fault(rt.alloc(), &[1, 0]) == Some((1, JournalKind::Magic)));
+    assert!(rt; fault(rt.alloc(), &[1, 0x56, 0]) == Some((1, JournalKind::Short)));
     let mut longer = Vec::from_slice(rt.alloc(), &RUN)?;
     longer.push(0)?;
     assert!(rt; fault(rt.alloc(), &longer) == Some((57, JournalKind::Trailing)));
