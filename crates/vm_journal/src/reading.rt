@@ -132,12 +132,10 @@ fn read_run_fields(tag: u8, bytes: &[u8]) -> Result<(Entry, &[u8]), Fault>
 fn read_fields(tag: u8, bytes: &[u8]) -> Result<(Entry, &[u8]), Fault>
     ensures { Gives (λ x. (x.0, x.1.now)) result (fields_at tag bytes.now) }
 {
-    if tag <= 10 {
-        read_vcpu_fields(tag, bytes)
-    } else if 12 <= tag && tag <= 17 {
-        read_disk_fields(tag, bytes)
-    } else {
-        read_run_fields(tag, bytes)
+    match tag {
+        0..=10 => read_vcpu_fields(tag, bytes),
+        12..=17 => read_disk_fields(tag, bytes),
+        _ => read_run_fields(tag, bytes),
     }
 }
 
