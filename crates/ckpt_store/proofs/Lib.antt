@@ -1,0 +1,4 @@
+pub mod Gates
+mod Moments
+mod Pieces
+mod Torns

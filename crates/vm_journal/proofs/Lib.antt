@@ -1,0 +1,4 @@
+pub mod Entries
+pub mod Repeated
+pub mod Texts
+pub mod Whole
