@@ -89,3 +89,7 @@ insn_at bs = do
 abbrev pub sized : List ℕ → Read Insn → Result (Insn × ℕ) DecodeFault
 sized bs (Ok x) = Ok (x.0, length bs - length x.1)
 sized bs (Err e) = Err e
+
+-- what the bytes decode as
+unfoldable pub decoded : List ℕ → Result (Insn × ℕ) DecodeFault
+decoded bs = sized bs (insn_at bs)

@@ -1,5 +1,6 @@
 ghost use Rattle.std.specs.Prelude.{◌≡◌, ℕ, ◌≤◌, ◌+◌, ◌↔◌, List, ◌++◌, [], length, take, IfOk};
-ghost use Rattle.x86_decode.specs.Reading.{sized, insn_at};
+ghost use Rattle.x86_decode.specs.Reading.{sized, insn_at, decoded};
+ghost use Rattle.x86_decode.specs.Law.{FoundLaw, ShortLaw, UnknownLaw};
 ghost use Rattle.vm_law.specs.Grammar.{Spelled, IsPartial, IsUnknown};
 ghost use Rattle.vm_law.specs.declared.insn.Insn.{Insn};
 
@@ -28,9 +29,20 @@ pub fn decode(bytes: &[u8]) -> Result<(Insn, u8), DecodeFault>
     ensures short { (result ≡ Err DecodeFault.Short) ↔ IsPartial bytes.now }
     // Nothing would.
     ensures unknown { (result ≡ Err DecodeFault.Unknown) ↔ IsUnknown bytes.now }
+    // The answer as a value, of which `decoding_is_the_grammar` says the meaning.
+    ensures computed { result ≡ decoded bytes.now }
 {
     decode_at(bytes)
 }
+
+/// The law of decoding: of any list of bytes the value that `decode` answers is an instruction exactly where
+/// a front of the bytes spells it, `Short` exactly where more bytes would make a spelling, and `Unknown`
+/// exactly where nothing would. So a machine may be defined by that value.
+pub fn decoding_is_the_grammar()
+    ensures found { FoundLaw }
+    ensures short { ShortLaw }
+    ensures unknown { UnknownLaw }
+{}
 
 /// The law of the grammar: a spelling is of one instruction and no beginning of another spelling, and it has
 /// at most 15 bytes.

@@ -4,6 +4,7 @@ use Rattle.vm_law.specs.declared.insn.Insn.{Insn}
 use Rattle.x86_decode.specs.declared.fault.DecodeFault.{DecodeFault}
 use Rattle.x86_decode.specs.declared.fault.DecodeFault.TheVariants.{Short, Unknown}
 use Rattle.vm_law.specs.Grammar.{Spelled, IsPartial, IsUnknown}
+use Rattle.x86_decode.specs.Reading.{decoded}
 use Rattle.x86_decode.proofs.Exact.{found, only, short, unknown}
 use Rattle.x86_decode.proofs.decoder.decode.Goals as goal
 
@@ -27,3 +28,7 @@ pub returns-clause-unknown : goal.returns-clause-unknown
 returns-clause-unknown c =
     let bs = c.args.bytes.now in
     subst (λ (r : Answer). (r ≡ Err Unknown) ↔ IsUnknown bs) (sym c.decode_at.ensures) (unknown bs (λ i. omega (arith, c.type_inv.bytes i)))
+
+pub returns-clause-computed : goal.returns-clause-computed
+unfolding decoded
+returns-clause-computed c = c.decode_at.ensures
