@@ -1,6 +1,6 @@
 -- The next instruction of a vCPU. Source: Intel SDM volume 3, section 6.15, and volume 2, section 2.3.11, for bytes that
 -- are no instruction.
-use Rattle.std.specs.Prelude.{ℕ, Bool, true, false, List, drop, Result, Ok, Err, if◌then◌else◌}
+use Rattle.std.specs.Prelude.{ℕ, Bool, true, false, List, drop, Result, Ok, Err, IsTrue, if◌then◌else◌}
 use Rattle.vm_law.specs.declared.context.Ctx.{Ctx}
 use Rattle.vm_law.specs.declared.context.Stop.TheVariants as stop
 use Rattle.vm_law.specs.declared.insn.Insn.{Insn}
@@ -29,3 +29,9 @@ abbrev pub is_local_next : Next → Bool
 is_local_next (Local insn len) = true
 is_local_next (Shared insn len) = false
 is_local_next (AtStop why) = false
+
+-- what is to be done is built
+abbrev pub IsBuilt : Next → Type 0
+IsBuilt (Local insn len) = IsTrue (is_local insn)
+IsBuilt (Shared insn len) = IsTrue (is_shared insn)
+IsBuilt (AtStop why) = Unit {0}

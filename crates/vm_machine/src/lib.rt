@@ -1,10 +1,14 @@
 //! The machine: which entry is lawful, and what it does.
 #![tactic(auto)]
 
+mod built;
+mod effect;
 mod fetching;
+mod slices;
 mod start;
 mod state;
 
-pub use fetching::Next;
+pub use fetching::{Next, next_of};
+pub use slices::all_local;
 pub use start::{Origin, Start};
 pub use state::{Core, Cpu, Machine, Meeting, Seat, Why};
