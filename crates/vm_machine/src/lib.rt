@@ -2,11 +2,15 @@
 #![tactic(auto)]
 
 mod built;
+mod control;
 mod effect;
 mod fetching;
+mod owners;
+mod running;
 mod slices;
 mod start;
 mod state;
+mod table;
 
 pub use fetching::{Next, next_of};
 pub use slices::all_local;
