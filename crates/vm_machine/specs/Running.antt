@@ -16,6 +16,10 @@ use Rattle.vm_machine.specs.Slices.{all_local, stepped_by}
 unfoldable pub open_grants : List Seat → ℕ
 open_grants seats = sum_by (λ (seat : Seat). seat.left) seats
 
+-- how many instructions may be granted yet
+abbrev pub room_of : Core → ℕ
+room_of s = s.limit - s.executed - open_grants s.seats
+
 -- a frozen vCPU runs on, for at most 1,024 instructions and no more than the limit leaves
 unfoldable pub may_enter : Core → ℕ → ℕ → ℕ → Bool
 may_enter s p i grant =

@@ -7,7 +7,7 @@ use Rattle.vm_law.specs.declared.journal.Signed.{Signed}
 use Rattle.vm_machine.specs.declared.state.Core.{Core}
 use Rattle.vm_machine.specs.declared.start.Start as start_type
 use Rattle.vm_machine.specs.State.{cpu_at, seat_at}
-use Rattle.vm_machine.specs.Running.{open_grants}
+use Rattle.vm_machine.specs.Running.{room_of}
 use Rattle.vm_machine.specs.Table.{State, lawful, after}
 use Rattle.vm_machine.specs.Starting.{boot}
 
@@ -26,7 +26,7 @@ is_exit_due s i =
 
 -- the grant that a runner asks for: 1,024, or what the limit leaves
 unfoldable pub grant_of : Core → ℕ
-grant_of s = min 1024 (s.limit - s.executed - open_grants s.seats)
+grant_of s = min 1024 (room_of s)
 
 abbrev pub exit_where_due : Core → ℕ → List Entry
 exit_where_due s i = if is_exit_due s i then Exit i ∷ [] else []
