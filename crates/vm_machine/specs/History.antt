@@ -1,6 +1,5 @@
 -- Histories: lists of entries, each with the pass that added it.
-use Rattle.std.specs.Prelude.{◌≡◌, ℕ, suc, Bool, true, ◌&&◌, List, [], ◌∷◌, Option, Some, None, if◌then◌else◌}
-use Rattle.std.specs.Option.{option_map}
+use Rattle.std.specs.Prelude.{◌≡◌, ℕ, Bool, true, ◌&&◌, List, [], ◌∷◌, Option}
 use Rattle.vm_law.specs.declared.journal.Signed.{Signed}
 use Rattle.vm_machine.specs.declared.state.Why.{Why}
 use Rattle.vm_machine.specs.declared.start.Start.{Start}
@@ -16,11 +15,6 @@ after_all s (x ∷ xs) = after_all (after s x) xs
 abbrev pub is_lawful_all : State → List Signed → Bool
 is_lawful_all s [] = true
 is_lawful_all s (x ∷ xs) = lawful s.core x.by x.entry && is_lawful_all (after s x) xs
-
--- the place of the first entry that isn't lawful
-abbrev pub first_bad : State → List Signed → Option ℕ
-first_bad s [] = None
-first_bad s (x ∷ xs) = if lawful s.core x.by x.entry then option_map suc (first_bad (after s x) xs) else Some 0
 
 -- the entries are a history of the machine from its start on
 abbrev pub IsLegal : Start → List Signed → Type 0
