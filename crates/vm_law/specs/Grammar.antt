@@ -1,5 +1,6 @@
 -- The grammar of instructions in 64-bit mode: which bytes spell which instruction.
--- A spelling is prefixes, REX byte, opcode, ModRM byte, SIB byte, displacement and immediate.
+-- A spelling is prefixes, REX byte, opcode, ModRM byte, SIB byte, displacement and immediate. That none has more
+-- than 15 bytes follows.
 -- Source: Intel SDM volume 2, sections 2.1 to 2.2.1.
 use Rattle.std.specs.Prelude.{◌≡◌, ℕ, ◌<◌, true, Option, Some, None, List, [], ◌∷◌, ◌++◌, length, take, slice_index, Contains}
 use Rattle.vm_law.specs.declared.head.Prefixes.{Prefixes}

@@ -54,10 +54,12 @@ is_rex byte = nat_le 64 byte && nat_lt byte 80
 unfoldable pub rex_of : ℕ → Rex
 rex_of byte = record { w = byte / 8 % 2 == 1; r = byte / 4 % 2 == 1; x = byte / 2 % 2 == 1; b = byte % 2 == 1 }
 
+-- REX.W
 abbrev pub rex_w : Option Rex → Bool
 rex_w None = false
 rex_w (Some r) = r.w
 
+-- REX.B
 abbrev pub rex_b : Option Rex → Bool
 rex_b None = false
 rex_b (Some r) = r.b
@@ -123,5 +125,6 @@ fits row h (m ∷ []) = takes row h && (fits_slash row.slash m && (fits_side row
 unfoldable pub row_for : Head → List ℕ → Option Row
 row_for h ms = find (λ row. fits row h ms) ROWS
 
+-- before the first prefix
 abbrev pub no_prefix : Prefixes
 no_prefix = record { size = false; lock = false; rep = false }

@@ -127,8 +127,10 @@ imm_any imm.V width.Q = omega arith
 modrm_imm : (row : Row) (h : Head) (ms : List ℕ) (w : Width) → Contains ROWS row → fits row h ms ≡ true → 6 * length ms + imm_len row.imm w ≤ 10
 modrm_imm row h [] w c f = omega (arith, imm_any row.imm w)
 modrm_imm row h (m ∷ []) w c f =
-    elim (or_cases _ _ (all_at brief ROWS row rows_brief c)) [
-      | inl n ↦ omega (arith, imm_short row.imm w (λ t. let bad : true ≡ false = sym t ∙ not-true _ n in cc bad))
+    elim (or_cases (not (full row.imm)) (not (has_modrm row.slash)) (all_at brief ROWS row rows_brief c)) [
+      | inl n ↦
+          let four : imm_len row.imm w ≤ 4 = imm_short row.imm w (λ t. let bad : true ≡ false = sym t ∙ not-true (full row.imm) n in cc bad) in
+          omega arith
       | inr n ↦ absurd (let bad : true ≡ false = sym (slash_has row.slash m (fits_parts row h m f).slash) ∙ not-true _ n in cc bad)
     ]
 modrm_imm row h (m ∷ n ∷ ms) w c f = absurd (no_second row h m n ms f)

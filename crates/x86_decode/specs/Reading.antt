@@ -1,4 +1,4 @@
--- Reading, as functions on lists: what is read and what is left, or why there is nothing.
+-- Reading an instruction part by part, as functions on lists of bytes.
 use Rattle.std.specs.Prelude.{◌≡◌, ℕ, ◌-◌, nat_lt, ◌==◌, Option, Some, None, Result, Ok, Err, List, [], ◌∷◌, length, take, drop, if◌then◌else◌}
 use Rattle.vm_law.specs.declared.head.Prefixes.{Prefixes}
 use Rattle.vm_law.specs.declared.head.Rex.{Rex}
@@ -11,9 +11,11 @@ use Rattle.vm_law.specs.declared.insn.Insn.{Insn}
 use Rattle.vm_law.specs.Rows.{no_prefix, add_prefix, clashes, is_rex, rex_of, any_row, row_for}
 use Rattle.vm_law.specs.Meaning.{width_of, sib_len, disp_len, imm_len, meaning}
 
+-- what is read and what is left, or why nothing is
 abbrev pub Read : Type 0 → Type 0
 Read A = Result (A × List ℕ) DecodeFault
 
+-- reading on, where something was read
 infixl 10 ◌>>=◌
 abbrev pub ◌>>=◌ : {A B : Type 0} → Read A → (A × List ℕ → Read B) → Read B
 (Ok x) >>= f = f x
@@ -33,6 +35,7 @@ abbrev pub scan : Prefixes → List ℕ → Prefixes × List ℕ
 scan p [] = (p, [])
 scan p (b ∷ bs) = elim (add_prefix b p) [ None ↦ (p, b ∷ bs) | Some q ↦ scan q bs ]
 
+-- a REX byte, if one stands there
 abbrev pub rex_at : List ℕ → Option Rex × List ℕ
 rex_at [] = (None, [])
 rex_at (b ∷ bs) = if is_rex b then (Some (rex_of b), bs) else (None, b ∷ bs)
@@ -41,14 +44,17 @@ rex_at (b ∷ bs) = if is_rex b then (Some (rex_of b), bs) else (None, b ∷ bs)
 abbrev pub known : Head → List ℕ → Read Head
 known h bs = if any_row h then Ok (h, bs) else Err Unknown
 
+-- the opcode byte behind 0F
 abbrev pub second_at : Prefixes → Option Rex → List ℕ → Read Head
 second_at p rex [] = Err Short
 second_at p rex (b ∷ bs) = known (record { prefixes = p; rex = rex; map = Two; byte = b }) bs
 
+-- the opcode
 unfoldable pub opcode_at : Prefixes → Option Rex → List ℕ → Read Head
 opcode_at p rex [] = Err Short
 opcode_at p rex (b ∷ bs) = if b == 15 then second_at p rex bs else known (record { prefixes = p; rex = rex; map = One; byte = b }) bs
 
+-- prefixes, REX byte and opcode
 unfoldable pub head_at : List ℕ → Read Head
 head_at bs =
     let s = scan no_prefix bs in
@@ -60,14 +66,17 @@ abbrev pub row_found : Option Row → List ℕ → List ℕ → Read (Row × Lis
 row_found None ms bs = Err Unknown
 row_found (Some row) ms bs = Ok ((row, ms), bs)
 
+-- the row by the ModRM byte
 abbrev pub modrm_at : Head → List ℕ → Read (Row × List ℕ)
 modrm_at h [] = Err Short
 modrm_at h (m ∷ bs) = row_found (row_for h (m ∷ [])) (m ∷ []) bs
 
+-- the row without a ModRM byte, or else by one
 abbrev pub row_or : Option Row → Head → List ℕ → Read (Row × List ℕ)
 row_or None h bs = modrm_at h bs
 row_or (Some row) h bs = Ok ((row, []), bs)
 
+-- the row of an opcode
 unfoldable pub row_at : Head → List ℕ → Read (Row × List ℕ)
 row_at h bs = row_or (row_for h []) h bs
 
@@ -79,6 +88,7 @@ tail_at h row modrm bs = do
   imm ← chunk (imm_len row.imm (width_of row.class h.prefixes h.rex)) disp.1
   Ok (meaning row h modrm sib.0 disp.0 imm.0, imm.1)
 
+-- an instruction
 unfoldable pub insn_at : List ℕ → Read Insn
 insn_at bs = do
   h ← head_at bs

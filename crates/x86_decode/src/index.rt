@@ -53,16 +53,18 @@ static UPTO: [u8; 512] = [
     0, 0, 0, 0, 0, 0, 0, 0, 0, 0, 0, 0, 0, 0, 0, 0, 0, 0, 0, 0, 0, 0, 0, 0, 0, 0, 0, 0, 0, 0,
 ];
 
-fn key_of(h: &Head) -> usize
-    ensures value { result ≡ key_of h.now.map h.now.byte }
+/// Where an opcode stands in the index.
+fn key_of(head: &Head) -> usize
+    ensures value { result ≡ key_of head.now.map head.now.byte }
     ensures small { result < 512 }
 {
-    match h.map {
-        Map::One => h.byte as usize,
-        Map::Two => 256 + h.byte as usize,
+    match head.map {
+        Map::One => head.byte as usize,
+        Map::Two => 256 + head.byte as usize,
     }
 }
 
+/// The index of the first row at a place.
 #[tactic(auto, unfolding(crate::specs::Index::from_of))]
 fn from_of(key: usize) -> usize
     requires { key < 512 }
@@ -71,6 +73,7 @@ fn from_of(key: usize) -> usize
     FROM[key] as usize
 }
 
+/// One past the index of the last row at a place.
 #[tactic(auto, unfolding(crate::specs::Index::upto_of))]
 fn upto_of(key: usize) -> usize
     requires { key < 512 }
@@ -79,6 +82,7 @@ fn upto_of(key: usize) -> usize
     UPTO[key] as usize
 }
 
+/// The rows from one index up to another.
 fn some_of(rows: &[Row], from: usize, upto: usize) -> &[Row]
     requires ordered { from ≤ upto }
     requires within { upto ≤ length rows.now }
@@ -88,9 +92,9 @@ fn some_of(rows: &[Row], from: usize, upto: usize) -> &[Row]
 }
 
 /// The rows that may take an opcode.
-pub(crate) fn rows_at(h: &Head) -> &'static [Row]
-    ensures { result.now ≡ slice_range ROWS (from_of (key_of h.now.map h.now.byte)) (upto_of (key_of h.now.map h.now.byte)) }
+pub(crate) fn rows_at(head: &Head) -> &'static [Row]
+    ensures { result.now ≡ slice_range ROWS (from_of (key_of head.now.map head.now.byte)) (upto_of (key_of head.now.map head.now.byte)) }
 {
-    let key = key_of(h);
+    let key = key_of(head);
     some_of(&ROWS, from_of(key), upto_of(key))
 }

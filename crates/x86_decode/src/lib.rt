@@ -11,8 +11,11 @@ mod decoder;
 mod fault;
 mod index;
 mod meaning;
+mod operand;
 mod parts;
 mod reading;
+#[cfg(test)]
+mod tests;
 
 pub use decoder::{decode, decoding_is_the_grammar, one_spelling};
 pub use fault::DecodeFault;

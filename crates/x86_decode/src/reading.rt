@@ -7,34 +7,45 @@ use crate::fault::DecodeFault;
 use crate::index::rows_at;
 use vm_law::{Class, Head, Map, Need, Prefixes, Rex, Row, Side, Slash};
 
+/// The prefixes with one more, where the byte is one that isn't among them.
 #[tactic(auto, unfolding(vm_law::specs::Rows::add_prefix))]
-fn add_prefix(byte: u8, p: Prefixes) -> Option<Prefixes>
-    ensures { result ≡ add_prefix byte p }
+fn add_prefix(byte: u8, prefixes: Prefixes) -> Option<Prefixes>
+    ensures { result ≡ add_prefix byte prefixes }
 {
     if byte == 0x66 {
-        return if p.size {
+        return if prefixes.size {
             None
         } else {
-            Some(Prefixes { size: true, ..p })
+            Some(Prefixes {
+                size: true,
+                ..prefixes
+            })
         };
     }
     if byte == 0xF0 {
-        return if p.lock {
+        return if prefixes.lock {
             None
         } else {
-            Some(Prefixes { lock: true, ..p })
+            Some(Prefixes {
+                lock: true,
+                ..prefixes
+            })
         };
     }
     if byte == 0xF3 {
-        return if p.rep {
+        return if prefixes.rep {
             None
         } else {
-            Some(Prefixes { rep: true, ..p })
+            Some(Prefixes {
+                rep: true,
+                ..prefixes
+            })
         };
     }
     None
 }
 
+/// The bits of a REX byte.
 #[tactic(auto, unfolding(vm_law::specs::Rows::rex_of))]
 fn rex_of(byte: u8) -> Rex
     ensures { result ≡ rex_of byte }
@@ -47,6 +58,7 @@ fn rex_of(byte: u8) -> Rex
     }
 }
 
+/// Whether both are the same map.
 fn same_map(a: Map, b: Map) -> bool
     ensures { result ≡ same_map a b }
 {
@@ -57,25 +69,27 @@ fn same_map(a: Map, b: Map) -> bool
     }
 }
 
+/// The prefixes at the front, each at most once, and the bytes behind them.
 fn scan(bytes: &[u8]) -> (Prefixes, &[u8])
     ensures { scan no_prefix bytes.now ≡ (result.0, result.1.now) }
 {
-    let mut p = Prefixes {
+    let mut prefixes = Prefixes {
         size: false,
         lock: false,
         rep: false,
     };
     let mut rest = bytes;
     while let [first, tail @ ..] = rest {
-        let Some(q) = add_prefix(*first, p) else {
-            return (p, rest);
+        let Some(more) = add_prefix(*first, prefixes) else {
+            return (prefixes, rest);
         };
-        p = q;
+        prefixes = more;
         rest = tail;
     }
-    (p, rest)
+    (prefixes, rest)
 }
 
+/// The REX byte at the front, if there is one, and the bytes behind it.
 fn rex_at(bytes: &[u8]) -> (Option<Rex>, &[u8])
     ensures { rex_at bytes.now ≡ (result.0, result.1.now) }
 {
@@ -85,6 +99,7 @@ fn rex_at(bytes: &[u8]) -> (Option<Rex>, &[u8])
     }
 }
 
+/// Whether there is REX.W.
 pub(crate) fn rex_w(rex: Option<Rex>) -> bool
     ensures { result ≡ rex_w rex }
 {
@@ -94,6 +109,7 @@ pub(crate) fn rex_w(rex: Option<Rex>) -> bool
     }
 }
 
+/// Whether there is REX.B.
 fn rex_b(rex: Option<Rex>) -> bool
     ensures { result ≡ rex_b rex }
 {
@@ -103,6 +119,7 @@ fn rex_b(rex: Option<Rex>) -> bool
     }
 }
 
+/// Whether 66 may stand.
 fn takes_size(class: Class) -> bool
     ensures { result ≡ takes_size class }
 {
@@ -112,6 +129,7 @@ fn takes_size(class: Class) -> bool
     }
 }
 
+/// Whether a row has what else it needs.
 fn meets(need: Need, rex: Option<Rex>, offset: u8) -> bool
     ensures { result ≡ meets need rex offset }
 {
@@ -123,25 +141,27 @@ fn meets(need: Need, rex: Option<Rex>, offset: u8) -> bool
     }
 }
 
+/// Whether a row has the opcode, and the prefixes and the REX byte may stand before it.
 #[tactic(auto, unfolding(vm_law::specs::Rows::takes))]
-fn takes(row: &Row, h: &Head) -> bool
-    ensures { result ≡ takes row.now h.now }
+fn takes(row: &Row, head: &Head) -> bool
+    ensures { result ≡ takes row.now head.now }
 {
-    if !same_map(row.map, h.map) || h.byte < row.byte || h.byte - row.byte >= row.span {
+    if !same_map(row.map, head.map) || head.byte < row.byte || head.byte - row.byte >= row.span {
         return false;
     }
-    if h.prefixes.size && !takes_size(row.class) {
+    if head.prefixes.size && !takes_size(row.class) {
         return false;
     }
-    if h.prefixes.lock && !row.lock {
+    if head.prefixes.lock && !row.lock {
         return false;
     }
-    if h.prefixes.rep != row.rep {
+    if head.prefixes.rep != row.rep {
         return false;
     }
-    meets(row.need, h.rex, h.byte - row.byte)
+    meets(row.need, head.rex, head.byte - row.byte)
 }
 
+/// Whether a ModRM byte stands behind the opcode.
 fn has_modrm(slash: Slash) -> bool
     ensures { result ≡ has_modrm slash }
 {
@@ -151,77 +171,86 @@ fn has_modrm(slash: Slash) -> bool
     }
 }
 
-fn fits_slash(slash: Slash, m: u8) -> bool
-    ensures { result ≡ fits_slash slash m }
+/// Whether a row may have the ModRM byte for what its reg field says.
+fn fits_slash(slash: Slash, modrm: u8) -> bool
+    ensures { result ≡ fits_slash slash modrm }
 {
     match slash {
         Slash::None => false,
         Slash::Any => true,
-        Slash::Digit(d) => m / 8 % 8 == d,
-        Slash::Byte(b) => m == b,
+        Slash::Digit(d) => modrm / 8 % 8 == d,
+        Slash::Byte(b) => modrm == b,
     }
 }
 
-fn fits_side(side: Side, m: u8) -> bool
-    ensures { result ≡ fits_side side m }
+/// Whether a row may have the ModRM byte for where its operand is.
+fn fits_side(side: Side, modrm: u8) -> bool
+    ensures { result ≡ fits_side side modrm }
 {
     match side {
         Side::Any => true,
-        Side::Mem => m < 192,
-        Side::Reg => 192 <= m,
+        Side::Mem => modrm < 192,
+        Side::Reg => 192 <= modrm,
     }
 }
 
+/// Whether a row has the opcode, with no ModRM byte or with this one.
 #[tactic(auto, unfolding(vm_law::specs::Rows::fits))]
-fn fits(row: &Row, h: &Head, modrm: &[u8]) -> bool
-    ensures { result ≡ fits row.now h.now modrm.now }
+fn fits(row: &Row, head: &Head, modrm: &[u8]) -> bool
+    ensures { result ≡ fits row.now head.now modrm.now }
 {
     match modrm {
-        [] => takes(row, h) && !has_modrm(row.slash),
-        [m] => {
-            takes(row, h)
-                && fits_slash(row.slash, *m)
-                && fits_side(row.side, *m)
-                && (!h.prefixes.lock || *m < 192)
+        [] => takes(row, head) && !has_modrm(row.slash),
+        [byte] => {
+            takes(row, head)
+                && fits_slash(row.slash, *byte)
+                && fits_side(row.side, *byte)
+                && (!head.prefixes.lock || *byte < 192)
         }
         _ => false,
     }
 }
 
-fn any_of(rows: &[Row], h: &Head) -> bool
-    ensures { result ≡ list_any (λ r. takes r h.now) rows.now }
+/// Whether one of the rows has the opcode.
+fn any_of(rows: &[Row], head: &Head) -> bool
+    ensures { result ≡ list_any (λ r. takes r head.now) rows.now }
 {
-    rows.iter().any(|row| takes(row, h))
+    rows.iter().any(|row| takes(row, head))
 }
 
-fn first_of(rows: &[Row], h: &Head, modrm: &[u8]) -> Option<Row>
-    ensures { result ≡ find (λ r. fits r h.now modrm.now) rows.now }
+/// The first of the rows that has the opcode and the ModRM byte.
+fn first_of(rows: &[Row], head: &Head, modrm: &[u8]) -> Option<Row>
+    ensures { result ≡ find (λ r. fits r head.now modrm.now) rows.now }
 {
-    rows.iter().copied().find(|row| fits(row, h, modrm))
+    rows.iter().copied().find(|row| fits(row, head, modrm))
 }
 
-fn any_row(h: &Head) -> bool
-    ensures { result ≡ any_row h.now }
+/// Whether some row of the table has the opcode.
+fn any_row(head: &Head) -> bool
+    ensures { result ≡ any_row head.now }
 {
-    any_of(rows_at(h), h)
+    any_of(rows_at(head), head)
 }
 
-pub(crate) fn row_for(h: &Head, modrm: &[u8]) -> Option<Row>
-    ensures { result ≡ row_for h.now modrm.now }
+/// The row of the table that has the opcode and the ModRM byte, none or one.
+pub(crate) fn row_for(head: &Head, modrm: &[u8]) -> Option<Row>
+    ensures { result ≡ row_for head.now modrm.now }
 {
-    first_of(rows_at(h), h, modrm)
+    first_of(rows_at(head), head, modrm)
 }
 
-fn known(h: Head, bytes: &[u8]) -> Result<(Head, &[u8]), DecodeFault>
-    ensures { Gives (λ x. (x.0, x.1.now)) result (known h bytes.now) }
+/// The opcode, where some row has it.
+fn known(head: Head, bytes: &[u8]) -> Result<(Head, &[u8]), DecodeFault>
+    ensures { Gives (λ x. (x.0, x.1.now)) result (known head bytes.now) }
 {
-    if any_row(&h) {
-        Ok((h, bytes))
+    if any_row(&head) {
+        Ok((head, bytes))
     } else {
         Err(DecodeFault::Unknown)
     }
 }
 
+/// The opcode at the front, and the bytes behind it.
 #[tactic(auto, unfolding(crate::specs::Reading::opcode_at))]
 fn opcode_at(
     prefixes: Prefixes,
@@ -233,26 +262,27 @@ fn opcode_at(
     match bytes {
         [] | [0x0F] => Err(DecodeFault::Short),
         [0x0F, byte, rest @ ..] => {
-            let h = Head {
+            let head = Head {
                 prefixes,
                 rex,
                 map: Map::Two,
                 byte: *byte,
             };
-            known(h, rest)
+            known(head, rest)
         }
         [byte, rest @ ..] => {
-            let h = Head {
+            let head = Head {
                 prefixes,
                 rex,
                 map: Map::One,
                 byte: *byte,
             };
-            known(h, rest)
+            known(head, rest)
         }
     }
 }
 
+/// Prefixes, REX byte and opcode, and the bytes behind them.
 #[tactic(auto, unfolding(crate::specs::Reading::head_at))]
 pub(crate) fn head_at(bytes: &[u8]) -> Result<(Head, &[u8]), DecodeFault>
     ensures { Gives (λ x. (x.0, x.1.now)) result (head_at bytes.now) }

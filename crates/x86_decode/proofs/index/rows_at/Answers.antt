@@ -19,4 +19,4 @@ pub returns : goal.returns
 returns c =
     let a = c.from_of.ensures ∙ ap from_of c.key_of-key.ensures.value in
     let b = c.upto_of.ensures ∙ ap upto_of c.key_of-key.ensures.value in
-    c.some_of.ensures ∙ ap (λ (n : ℕ). slice_range ROWS n c.upto_of.result) a ∙ ap (λ (n : ℕ). slice_range ROWS (from_of (key_of c.args.h.now.map c.args.h.now.byte)) n) b
+    c.some_of.ensures ∙ ap (λ (n : ℕ). slice_range ROWS n c.upto_of.result) a ∙ ap (λ (n : ℕ). slice_range ROWS (from_of (key_of c.args.head.now.map c.args.head.now.byte)) n) b

@@ -6,4 +6,4 @@ use Rattle.x86_decode.proofs.Indexed.{any_in_part}
 use Rattle.x86_decode.proofs.reading.any_row.Goals as goal
 
 pub returns : goal.returns
-returns c = c.any_of.ensures ∙ ap (λ (rs : List Row). list_any (λ r. takes r c.args.h.now) rs) c.rows_at.ensures ∙ any_in_part c.args.h.now
+returns c = c.any_of.ensures ∙ ap (λ (rs : List Row). list_any (λ r. takes r c.args.head.now) rs) c.rows_at.ensures ∙ any_in_part c.args.head.now

@@ -1,0 +1,5 @@
+mod Places
+mod Counts
+mod Histories
+mod Steps
+pub mod Callers

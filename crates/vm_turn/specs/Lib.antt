@@ -1,0 +1,5 @@
+pub mod History
+pub mod Known
+pub mod Rule
+pub mod Seat
+pub mod View
