@@ -1,0 +1,25 @@
+-- Reading a fixed text, and the end of the bytes. `K` are the kinds of a grammar's faults.
+use Rattle.std.specs.Prelude.{◌≡◌, ◌-◌, ℕ, List, [], ◌∷◌, length, Result, Ok, Err, nat_lt, ◌==◌, if◌then◌else◌}
+use Rattle.vm_law.specs.declared.reading.Refusal.{Refusal}
+use Rattle.vm_law.specs.Reader.{Read, Reader, fault_at}
+
+module _ {K : Type 0} where
+  -- these bytes, of which the first that differs is the fault
+  unfoldable pub same : K → K → List ℕ → Reader K (Unit {0})
+  same short other [] bytes = Ok (tt, bytes)
+  same short other (c ∷ cs) [] = fault_at short []
+  same short other (c ∷ cs) (b ∷ rest) = if b == c then same short other cs rest else fault_at other (b ∷ rest)
+
+  -- a fixed text; where it is cut, the fault is at its first byte
+  unfoldable pub text_at : K → K → List ℕ → Reader K (Unit {0})
+  text_at short other text bytes = if nat_lt (length bytes) (length text) then fault_at short bytes else same short other text bytes
+
+  -- nothing follows
+  abbrev pub ended : {A : Type 0} → K → Read K A → Result A (Refusal K)
+  ended trailing (Ok x) = if length x.1 == 0 then Ok x.0 else Err (record { left = length x.1; kind = trailing })
+  ended trailing (Err e) = Err e
+
+  -- Among `size` bytes the reading refused at this place, for this reason.
+  abbrev pub IsFault : {A : Type 0} → ℕ → ℕ → K → Result A (Refusal K) → Type 0
+  IsFault size at kind (Ok x) = ⊥
+  IsFault size at kind (Err r) = (at ≡ size - r.left) × (kind ≡ r.kind)
