@@ -1,5 +1,5 @@
 -- Each lawful entry keeps what holds of every run.
-use Rattle.std.proofs.Common.{◌≡◌, ℕ, ◌+◌, ◌-◌, ◌<◌, ◌≤◌, Bool, true, false, List, length, get_or, set, IsTrue, arith, inl, inr}
+use Rattle.std.proofs.Common.{◌≡◌, ℕ, ◌+◌, ◌-◌, ◌<◌, ◌≤◌, Bool, true, false, List, length, get_or, set, IsTrue, arith, inl, inr, refl}
 use Rattle.std.specs.Prelude.{Option}
 use Rattle.std.proofs.Math.ListN.{length-set}
 use Rattle.std.proofs.lemmas.List.{get_or-set_other, set_past}
@@ -228,3 +228,23 @@ keeps_effect s p e h m = h
 -- each lawful entry keeps what holds of every run
 pub keeps : (s : Core) (p : ℕ) (e : Entry) → IsSoundCore s → IsTrue (allowed s p e) → IsSoundCore (counted (effect s p e))
 keeps s p e h m = keeps_counted (effect s p e) (keeps_effect s p e h m)
+
+length_stepped : (s : Core) (i : ℕ) (next : Next) → length (stepped_at s i next).machine.cpus ≡ length s.machine.cpus
+unfolding stepped_at spent
+length_stepped s i (Local insn len) = refl
+length_stepped s i (Shared insn len) = simp length-set
+length_stepped s i (AtStop why) = refl
+
+-- no entry adds or removes a vCPU
+pub length_effect : (s : Core) (p : ℕ) (e : Entry) → length (counted (effect s p e)).machine.cpus ≡ length s.machine.cpus
+unfolding counted effect after_claim after_enter after_slice after_step spent after_exit after_yield after_done after_end after_close
+length_effect s p (Claim i) = simp length-set
+length_effect s p (Enter i grant) = simp length-set
+length_effect s p (Slice i n) = simp length-set
+length_effect s p (Step i) = length_stepped s i (next_at s i)
+length_effect s p (Exit i) = simp length-set
+length_effect s p (Yield i) = simp length-set
+length_effect s p (Done k) = refl
+length_effect s p (End cause) = refl
+length_effect s p Close = refl
+length_effect s p e = refl

@@ -1,11 +1,12 @@
 //! A run of the machine.
-ghost use Rattle.std.specs.Prelude.{◌≡◌, ◌≤◌, ◌<◌, ◌+◌, IsTrue, IfOk, OnOk};
+ghost use Rattle.std.specs.Prelude.{◌≡◌, ◌≤◌, ◌<◌, ◌+◌, length, IsTrue, IfOk, OnOk};
 ghost use Rattle.vm_machine.specs.declared.state.Why.{Why};
 ghost use Rattle.vm_machine.specs.State as state;
 ghost use Rattle.vm_machine.specs.Control as control_spec;
 ghost use Rattle.vm_machine.specs.Running as running_spec;
 ghost use Rattle.vm_machine.specs.Slices.{LocalRun};
 ghost use Rattle.vm_machine.specs.Starting as starting;
+ghost use Rattle.vm_machine.specs.Sound.{IsSoundCore};
 ghost use Rattle.vm_machine.specs.Table as table_spec;
 
 use crate::booting::boot;
@@ -78,6 +79,7 @@ impl Run {
         requires room { 1 ≤ self.old.room }
         ensures step { self.new.state ≡ table_spec.after self.old.state (record { by = by; entry = entry.now }) }
         ensures room { self.old.room ≤ self.new.room + 1 }
+        ensures cpus { length self.new.state.core.machine.cpus ≡ length self.old.state.core.machine.cpus }
     {
         if let Some(byte) = table::step(&mut self.core, by, *entry) {
             self.console.push_reserved(byte);
@@ -93,6 +95,14 @@ impl Run {
         ensures room { self.new.room ≡ self.old.room }
     {
         table::put_slice(&mut self.core, by, cpu, n, ctx);
+    }
+
+    /// What holds of every run: it has 1 to 16 vCPUs, each with a seat, and no more is executed and granted
+    /// than its limit allows.
+    pub fn is_sound(&self)
+        ensures { IsSoundCore self.now.state.core }
+    {
+        let _core = &self.core;
     }
 
     /// The machine.

@@ -1,5 +1,5 @@
 //! The table of entries: which is lawful, and what it does.
-ghost use Rattle.std.specs.Prelude.{◌≡◌, IsTrue};
+ghost use Rattle.std.specs.Prelude.{◌≡◌, length, IsTrue};
 ghost use Rattle.vm_machine.specs.State as state;
 ghost use Rattle.vm_machine.specs.Slices.{LocalRun};
 ghost use Rattle.vm_machine.specs.Table as spec;
@@ -78,6 +78,7 @@ pub(crate) fn step(core: &mut Core, by: u16, entry: Entry) -> Option<u8>
     ensures state { core.new ≡ spec.counted (spec.effect core.old by entry) }
     ensures output { result ≡ spec.output core.old entry }
     ensures sound { IsSoundCore core.new }
+    ensures cpus { length core.new.machine.cpus ≡ length core.old.machine.cpus }
 {
     let byte = perform(core, by, entry);
     count_entry(core);
