@@ -1,22 +1,16 @@
 -- The rounds of one thread: each actor, in the order of the passes' numbers, takes one turn and then does its work outside.
 use Rattle.std.specs.Prelude.{◌≡◌, ℕ, zero, suc, ◌+◌, Bool, true, not, ◌&&◌, List, [], ◌∷◌, ◌++◌, length, replicate, slice_index, slice_set, if◌then◌else◌}
 use Rattle.std.specs.Option.{option_to_list, option_map}
-use Rattle.vm_law.specs.declared.context.Ctx.{Ctx}
 use Rattle.vm_law.specs.declared.journal.Entry.TheVariants.{Slice}
 use Rattle.vm_law.specs.declared.journal.Signed.{Signed}
 use Rattle.vm_machine.specs.declared.state.Core.{Core}
 use Rattle.vm_machine.specs.declared.start.Start.{Start}
 use Rattle.vm_machine.specs.State.{cpu_at, seat_at, code_of, is_running}
-use Rattle.vm_machine.specs.Slices.{all_local}
+use Rattle.vm_machine.specs.Slices.{most_local}
 use Rattle.vm_machine.specs.Table.{State}
 use Rattle.vm_machine.specs.Starting.{boot}
 use Rattle.vm_machine.specs.History.{after_all}
 use Rattle.vm_machine.specs.Turns.{is_exit_due, first_lawful}
-
--- how many instructions from c on are local, of at most so many
-abbrev pub most_local : List ℕ → Ctx → ℕ → ℕ
-most_local code c zero = 0
-most_local code c (suc n) = if all_local code c (suc n) then suc n else most_local code c n
 
 -- the runner of i takes its vCPU's context out of the machine
 abbrev pub leases : Core → ℕ → Bool

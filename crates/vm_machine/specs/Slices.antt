@@ -1,5 +1,5 @@
 -- Local instructions in a row: they touch the vCPU's own registers alone.
-use Rattle.std.specs.Prelude.{◌≡◌, ℕ, zero, suc, Bool, true, ◌&&◌, List}
+use Rattle.std.specs.Prelude.{◌≡◌, ℕ, zero, suc, Bool, true, ◌&&◌, List, if◌then◌else◌}
 use Rattle.vm_law.specs.declared.context.Ctx.{Ctx}
 use Rattle.vm_machine.specs.declared.fetching.Next.{Next}
 use Rattle.vm_machine.specs.declared.fetching.Next.TheVariants.{Local, Shared, AtStop}
@@ -28,6 +28,11 @@ stepped_by code c (suc n) = stepped code (stepped_by code c n)
 abbrev pub all_local : List ℕ → Ctx → ℕ → Bool
 all_local code c zero = true
 all_local code c (suc n) = all_local code c n && stands_local code (stepped_by code c n)
+
+-- how many instructions from c on are local, of at most so many
+abbrev pub most_local : List ℕ → Ctx → ℕ → ℕ
+most_local code c zero = 0
+most_local code c (suc n) = if all_local code c (suc n) then suc n else most_local code c n
 
 -- n local instructions lead from c to d
 pub record LocalRun (code : List ℕ) (c : Ctx) (n : ℕ) (d : Ctx) : Type 0 where

@@ -17,6 +17,9 @@ mod table;
 
 pub use fetching::{Next, next_of};
 pub use run::Run;
-pub use slices::all_local;
+pub use slices::{all_local, run_slice};
 pub use start::{Origin, Start};
 pub use state::{Core, Cpu, Machine, Meeting, Seat, Why};
+
+#[cfg(test)]
+mod tests;

@@ -35,6 +35,19 @@ pub fn all_local(code: &[u8], ctx: &Ctx, count: u16) -> bool
     true
 }
 
+/// Runs local instructions for as long as there are any, but at most `most`, and says how many it ran.
+pub fn run_slice(code: &[u8], ctx: &mut Ctx, most: u16) -> u16
+    ensures ran { spec.LocalRun code.now ctx.old result ctx.new }
+    ensures most { result ≡ spec.most_local code.now ctx.old most }
+{
+    for done in 0..most {
+        if !step_local(code, ctx) {
+            return done;
+        }
+    }
+    most
+}
+
 /// Runs that many instructions. One that isn't local is left out, and so are those behind it.
 pub(crate) fn run_many(code: &[u8], ctx: &mut Ctx, count: u16)
     ensures { ctx.new ≡ spec.stepped_by code.now ctx.old count }
