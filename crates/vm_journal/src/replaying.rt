@@ -47,3 +47,6 @@ pub fn replay(alloc: Global, start: &Start, journal: &Journal) -> Result<Run, Re
     }
     Ok(run)
 }
+
+#[cfg(test)]
+mod tests;
