@@ -1,4 +1,5 @@
 pub mod Entries
+pub mod Histories
 pub mod Repeated
 pub mod Texts
 pub mod Whole

@@ -1,0 +1,122 @@
+ghost use Rattle.std.specs.Prelude.{◌≡◌, [], IfOk};
+ghost use Rattle.vm_machine.specs.Starting.{IsSound};
+
+use super::*;
+use std::test::Fail;
+use vm_law::{Entry, FlatImage, Order, Plan, Seq, Signed, Text};
+use vm_machine::{Origin, Why};
+
+/// The history of the code below, from its start to Close.
+const HISTORY: [(u16, Entry); 9] = [
+    (1, Entry::Claim { cpu: 0 }),
+    (
+        1,
+        Entry::Enter {
+            cpu: 0,
+            grant: 1024,
+        },
+    ),
+    (1, Entry::Slice { cpu: 0, n: 2 }),
+    (1, Entry::Step { cpu: 0 }),
+    (1, Entry::Step { cpu: 0 }),
+    (0, Entry::Done { k: 0 }),
+    (1, Entry::Exit { cpu: 0 }),
+    (1, Entry::Yield { cpu: 0 }),
+    (0, Entry::Close),
+];
+
+/// Places of the history's entries, and where their list has its first bad entry.
+static LISTS: [(&[usize], Option<u64>); 13] = [
+    (&[0, 1, 2, 3, 4, 5, 6, 7, 8], None),
+    (&[], None),
+    (&[0, 1, 2, 3, 4, 5, 6, 7], None),
+    (&[0, 2, 1, 3, 4, 5, 6, 7, 8], Some(1)),
+    (&[1, 2, 3, 4, 5, 6, 7, 8], Some(0)),
+    (&[0, 2, 3, 4, 5, 6, 7, 8], Some(1)),
+    (&[0, 1, 3, 4, 5, 6, 7, 8], Some(2)),
+    (&[0, 1, 2, 4, 5, 6, 7, 8], Some(4)),
+    (&[0, 1, 2, 3, 4, 6, 7, 8], Some(6)),
+    (&[0, 1, 2, 3, 4, 5, 7, 8], Some(6)),
+    (&[0, 1, 2, 3, 4, 5, 6, 8], Some(7)),
+    (&[0, 1, 2, 3, 4, 5, 6, 7, 8, 8], Some(9)),
+    (&[0, 0, 1, 2], Some(1)),
+];
+
+fn plan_of(alloc: Global) -> Plan
+    ensures cpus { result.cpus ≡ 1 }
+    ensures memory { result.memory ≡ 268435456 }
+    ensures disks { result.disks ≡ [] }
+{
+    Plan {
+        cpus: 1,
+        memory: 268_435_456,
+        name: Text::from_string(String::new(alloc)),
+        image: None,
+        script: None,
+        disks: Seq::new(alloc),
+        notbuilt: Seq::new(alloc),
+    }
+}
+
+/// MOV EDX, 3F8; MOV AL, 41; OUT DX, AL; HLT.
+fn one_byte(alloc: Global) -> Result<Start, OutOfMemory>
+    ensures { IfOk result IsSound }
+{
+    let code = [0xBA, 0xF8, 0x03, 0x00, 0x00, 0xB0, 0x41, 0xEE, 0xF4];
+    let payload = Seq::from_slice(alloc, &code)?;
+    let mut script = Seq::new(alloc);
+    script.push(Order::WaitQuiet)?;
+    Ok(Start {
+        plan: plan_of(alloc),
+        origin: Origin::Flat(FlatImage {
+            entry: 0,
+            code: 9,
+            payload,
+        }),
+        disks: Seq::new(alloc),
+        script,
+        limit: 10_000_000,
+    })
+}
+
+fn journal_of(alloc: Global, places: &[usize]) -> Result<Journal, OutOfMemory> {
+    let mut journal = Seq::new(alloc);
+    for place in places {
+        if *place < 9 {
+            let (by, entry) = HISTORY[*place];
+            journal.push(Signed { by, entry })?;
+        }
+    }
+    Ok(journal)
+}
+
+/// The place of the first bad entry; `None` where there is none.
+fn first_bad(alloc: Global, places: &[usize]) -> Result<Option<u64>, OutOfMemory> {
+    match replay(alloc, &one_byte(alloc)?, &journal_of(alloc, places)?) {
+        Ok(_) => Ok(None),
+        Err(ReplayError::BadEntry { at }) => Ok(Some(at)),
+        Err(ReplayError::Memory) => Err(OutOfMemory),
+    }
+}
+
+#[test]
+fn the_first_bad_entry_is_named(rt: HostRuntime) -> Result<(), Fail> {
+    for (places, bad) in LISTS.iter() {
+        assert_eq!(rt; first_bad(rt.alloc(), places)?, *bad);
+    }
+    Ok(())
+}
+
+#[test]
+fn a_history_gives_its_run(rt: HostRuntime) -> Result<(), Fail> {
+    let journal = journal_of(rt.alloc(), &[0, 1, 2, 3, 4, 5, 6, 7, 8])?;
+    match replay(rt.alloc(), &one_byte(rt.alloc())?, &journal) {
+        Ok(run) => {
+            assert_eq!(rt; run.console(), b"A".as_slice());
+            assert_eq!(rt; (run.executed(), run.closed()), (4, true));
+            assert_eq!(rt; run.ended(), Some(Why::Finished));
+        }
+        Err(_) => assert!(rt; false),
+    }
+    Ok(())
+}

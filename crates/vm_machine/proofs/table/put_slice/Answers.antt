@@ -1,0 +1,13 @@
+use Rattle.std.proofs.Common.{ap, ◌∙◌}
+use Rattle.std.proofs.lemmas.Bool.{and_parts}
+use Rattle.vm_law.specs.declared.journal.Entry.TheVariants.{Slice}
+use Rattle.vm_machine.specs.Table.{lawful, effect, counted}
+use Rattle.vm_machine.proofs.Keeps.{keeps}
+use Rattle.vm_machine.proofs.table.put_slice.Goals as goal
+
+pub returns-clause-sound : goal.returns-clause-sound
+unfolding lawful effect
+returns-clause-sound c =
+    let may = (and_parts _ _ c.requires.lawful).1 in
+    let same = c.count_entry.ensures ∙ ap counted c.put_slice.ensures in
+    rw same (keeps c.args.core.now c.args.by (Slice c.args.cpu c.args.n) c.requires.sound may)

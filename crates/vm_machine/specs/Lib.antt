@@ -1,0 +1,15 @@
+pub mod State
+pub mod Built
+pub mod Effect
+pub mod Fetching
+pub mod Slices
+pub mod Owners
+pub mod Running
+pub mod Control
+pub mod Table
+pub mod Sound
+pub mod View
+pub mod Starting
+pub mod History
+pub mod Turns
+pub mod Rounds

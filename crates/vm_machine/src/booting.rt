@@ -1,0 +1,131 @@
+//! The first state of a run.
+ghost use Rattle.std.specs.Prelude.{◌≡◌, ◌≤◌, length, take, replicate, IfOk};
+ghost use Rattle.vm_law.specs.Image.{code_part};
+ghost use Rattle.vm_machine.specs.State as state;
+ghost use Rattle.vm_machine.specs.Starting as spec;
+ghost use Rattle.vm_machine.specs.Sound.{IsSoundCore};
+
+use crate::copying::script_copy;
+use crate::start::{Origin, Start};
+use crate::state::{Core, Cpu, Machine, Seat};
+use std::alloc::Global;
+use vm_law::{Ctx, FlatImage, OutOfMemory, Owned, Seq};
+
+#[tactic(auto, unfolding(crate::specs::State::ctx_from))]
+fn ctx_from(rip: u64) -> Ctx
+    ensures { result ≡ state.ctx_from rip }
+{
+    Ctx {
+        regs: [0; 16],
+        rip,
+        rflags: 2,
+        idt_base: 0,
+        idt_limit: 0,
+        shadow: false,
+        nmi_block: false,
+    }
+}
+
+#[tactic(auto, unfolding(crate::specs::State::unstarted_cpu))]
+fn unstarted_cpu() -> Cpu
+    ensures { result ≡ state.unstarted_cpu }
+{
+    Cpu {
+        stage: Owned::Idle,
+        ctx: ctx_from(0),
+        started: false,
+        halted: false,
+    }
+}
+
+#[tactic(auto, unfolding(crate::specs::State::unstarted_cpu))]
+fn first_cpu(entry: u64) -> Cpu
+    ensures { result ≡ spec.first_cpu entry }
+{
+    Cpu {
+        stage: Owned::Idle,
+        ctx: ctx_from(entry),
+        started: true,
+        halted: false,
+    }
+}
+
+fn boot_cpus(alloc: Global, count: u8, entry: u64) -> Result<Seq<Cpu>, OutOfMemory>
+    requires { 1 ≤ count }
+    ensures { IfOk result (λ cpus. cpus ≡ spec.boot_cpus count entry) }
+{
+    let others = count - 1;
+    let mut cpus = Vec::new(alloc);
+    cpus.push(first_cpu(entry))?;
+    for _k in 0..others {
+        cpus.push(unstarted_cpu())?;
+    }
+    Ok(Seq::from_vec(cpus))
+}
+
+fn boot_seats(alloc: Global, count: u8) -> Result<Seq<Seat>, OutOfMemory>
+    ensures { IfOk result (λ seats. seats ≡ replicate count state.empty_seat) }
+{
+    let mut seats = Vec::new(alloc);
+    for _k in 0..count {
+        seats.push(Seat {
+            left: 0,
+            stayed: false,
+            ran: 0,
+        })?;
+    }
+    Ok(Seq::from_vec(seats))
+}
+
+fn code_of(alloc: Global, image: &FlatImage) -> Result<Seq<u8>, OutOfMemory>
+    requires { image.now.code ≤ length image.now.payload }
+    ensures { IfOk result (λ code. code ≡ code_part image.now) }
+{
+    Seq::from_slice(alloc, &image.payload.as_slice()[..image.code as usize])
+}
+
+fn image_of(origin: &Origin) -> &FlatImage
+    ensures { result.now ≡ spec.image_of origin.now }
+{
+    match origin {
+        Origin::Flat(image) => image,
+    }
+}
+
+#[tactic(auto, unfolding(crate::specs::Starting::boot))]
+fn first_core(alloc: Global, start: &Start) -> Result<Core, OutOfMemory>
+    requires { spec.IsSound start.now }
+    ensures { IfOk result (λ core. core ≡ (spec.boot start.now).core) }
+{
+    let image = image_of(&start.origin);
+    let cpus = boot_cpus(alloc, start.plan.cpus, image.entry)?;
+    let seats = boot_seats(alloc, start.plan.cpus)?;
+    let code = code_of(alloc, image)?;
+    let script = script_copy(alloc, &start.script)?;
+    Ok(Core {
+        machine: Machine {
+            cpus,
+            code,
+            pause: false,
+            meet: None,
+        },
+        seats,
+        executed: 0,
+        limit: start.limit,
+        entries: 0,
+        script,
+        place: 0,
+        ended: None,
+        closed: false,
+    })
+}
+
+/// The first state of a run, but for its console, which is empty.
+pub(crate) fn boot(alloc: Global, start: &Start) -> Result<Core, OutOfMemory>
+    requires { spec.IsSound start.now }
+    ensures state { IfOk result (λ core. core ≡ (spec.boot start.now).core) }
+    ensures sound { IfOk result IsSoundCore }
+{
+    let core = first_core(alloc, start)?;
+    Ok(core)
+}

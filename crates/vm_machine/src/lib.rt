@@ -1,0 +1,39 @@
+//! The machine of vmrun: what a run consists of, which entry is lawful in it, and what the entry does.
+//!
+//! A run goes from state to state by entries, each of which a pass adds: pass 0 is control, and pass 1 + i is
+//! the runner of vCPU i. One table of definitions says for each kind of entry when it is lawful and what it
+//! does; whatever it doesn't name stays. [`Run::may`] is exactly the table's test, and [`Run::apply`] makes
+//! exactly the table's step, so that a list of entries has one meaning. From a [`Start`] a run begins by
+//! [`Run::begin`], and its readers give what the state holds.
+//!
+//! Built are Claim, Enter, Slice, Step, Exit, Yield, Done for `wait quiet`, End and Close, and of the
+//! instructions those that the opcodes B0+r, B8+r, EB, EE and F4 spell. An entry of another kind is lawful
+//! nowhere, and an instruction that isn't built stops the run.
+//!
+//! The definitions say besides what a legal history is, what it shows, and which entries an actor adds in its
+//! turn. The stages of a vCPU follow FreeBSD's vmm(4), and the instructions the Intel SDM, volume 2; the table
+//! is vmrun's own.
+#![tactic(auto)]
+
+mod booting;
+mod built;
+mod control;
+mod copying;
+mod effect;
+mod fetching;
+mod owners;
+mod run;
+mod running;
+mod slices;
+mod start;
+mod state;
+mod table;
+
+pub use fetching::{Next, next_of};
+pub use run::Run;
+pub use slices::{all_local, run_slice};
+pub use start::{Origin, Start};
+pub use state::{Core, Cpu, Machine, Meeting, Seat, Why};
+
+#[cfg(test)]
+mod tests;

@@ -1,0 +1,22 @@
+//! What a run starts from.
+
+use vm_law::{FlatImage, Plan, Script, Seq};
+
+/// What a machine is made from.
+#[derive(Debug, Drop)]
+pub enum Origin {
+    /// A flat image.
+    Flat(FlatImage),
+}
+
+/// What a run starts from.
+#[derive(Debug, Drop)]
+pub struct Start {
+    pub plan: Plan,
+    pub origin: Origin,
+    /// The bytes of each disk.
+    pub disks: Seq<Seq<u8>>,
+    pub script: Script,
+    /// How many instructions may be executed, 1 to 20,000,000.
+    pub limit: u64,
+}

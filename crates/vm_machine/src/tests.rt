@@ -1,0 +1,478 @@
+ghost use Rattle.std.specs.Prelude.{◌≡◌, ◌≤◌, ◌<◌, [], length, IfOk};
+ghost use Rattle.vm_machine.specs.Starting.{IsSound};
+
+use super::*;
+use std::alloc::Global;
+use std::test::Fail;
+use vm_law::{
+    EndCause, Entry, FlatImage, Insn, Loc, Op, Order, OutOfMemory, Owned, Plan, Seq, Src, Stop,
+    Text, Width,
+};
+
+/// MOV EDX, 3F8; MOV AL, 41; OUT DX, AL; HLT.
+const ONE_BYTE: [u8; 9] = [0xBA, 0xF8, 0x03, 0x00, 0x00, 0xB0, 0x41, 0xEE, 0xF4];
+
+/// The history of the code above, from its start to Close.
+const HISTORY: [(u16, Entry); 9] = [
+    (1, Entry::Claim { cpu: 0 }),
+    (
+        1,
+        Entry::Enter {
+            cpu: 0,
+            grant: 1024,
+        },
+    ),
+    (1, Entry::Slice { cpu: 0, n: 2 }),
+    (1, Entry::Step { cpu: 0 }),
+    (1, Entry::Step { cpu: 0 }),
+    (0, Entry::Done { k: 0 }),
+    (1, Entry::Exit { cpu: 0 }),
+    (1, Entry::Yield { cpu: 0 }),
+    (0, Entry::Close),
+];
+
+/// Which entries of the history are lawful after its first 0, 1, .. 9 entries.
+const LAWFUL: [[bool; 9]; 10] = [
+    [true, false, false, false, false, false, false, false, false],
+    [false, true, false, false, false, false, false, false, false],
+    [false, false, true, false, false, false, false, false, false],
+    [false, false, false, true, true, false, true, false, false],
+    [false, false, false, true, true, false, true, false, false],
+    [false, false, false, false, false, true, true, false, false],
+    [false, false, false, false, false, false, true, false, false],
+    [false, false, false, false, false, false, false, true, false],
+    [false, false, false, false, false, false, false, false, true],
+    [
+        false, false, false, false, false, false, false, false, false,
+    ],
+];
+
+fn plan_of(alloc: Global, cpus: u8) -> Plan
+    ensures cpus { result.cpus ≡ cpus }
+    ensures memory { result.memory ≡ 268435456 }
+    ensures disks { result.disks ≡ [] }
+{
+    Plan {
+        cpus,
+        memory: 268_435_456,
+        name: Text::from_string(String::new(alloc)),
+        image: None,
+        script: None,
+        disks: Seq::new(alloc),
+        notbuilt: Seq::new(alloc),
+    }
+}
+
+fn start_of(alloc: Global, cpus: u8, code: &[u8], limit: u64) -> Result<Start, OutOfMemory>
+    requires some_cpu { 1 ≤ cpus }
+    requires cpus { cpus ≤ 16 }
+    requires some_code { 1 ≤ length code.now }
+    requires code { length code.now ≤ 4096 }
+    requires some_limit { 1 ≤ limit }
+    requires limit { limit ≤ 20000000 }
+    ensures { IfOk result IsSound }
+{
+    let payload = Seq::from_slice(alloc, code)?;
+    let mut script = Seq::new(alloc);
+    script.push(Order::WaitQuiet)?;
+    Ok(Start {
+        plan: plan_of(alloc, cpus),
+        origin: Origin::Flat(FlatImage {
+            entry: 0,
+            code: code.len() as u64,
+            payload,
+        }),
+        disks: Seq::new(alloc),
+        script,
+        limit,
+    })
+}
+
+/// What an entry is tried for.
+#[derive(Clone, Copy)]
+enum Case {
+    /// It is lawful, and its step is made.
+    Adds,
+    /// It is lawful.
+    May,
+    /// It isn't lawful.
+    No,
+}
+
+fn add(run: &mut Run, alloc: Global, by: u16, entry: &Entry) -> Result<bool, OutOfMemory> {
+    if !run.may(by, entry) {
+        return Ok(false);
+    }
+    run.reserve(alloc, 1)?;
+    run.apply(by, entry);
+    Ok(true)
+}
+
+fn holds(
+    run: &mut Run,
+    alloc: Global,
+    by: u16,
+    entry: &Entry,
+    case: Case,
+) -> Result<bool, OutOfMemory> {
+    match case {
+        Case::Adds => add(run, alloc, by, entry),
+        Case::May => Ok(run.may(by, entry)),
+        Case::No => Ok(!run.may(by, entry)),
+    }
+}
+
+/// The run after these cases, from the start of this code on, and how many cases don't hold.
+fn play(
+    alloc: Global,
+    cpus: u8,
+    code: &[u8],
+    limit: u64,
+    cases: &[(u16, Entry, Case)],
+) -> Result<(Run, u64), OutOfMemory>
+    requires some_cpu { 1 ≤ cpus }
+    requires cpus { cpus ≤ 16 }
+    requires some_code { 1 ≤ length code.now }
+    requires code { length code.now ≤ 4096 }
+    requires some_limit { 1 ≤ limit }
+    requires limit { limit ≤ 20000000 }
+{
+    let start = start_of(alloc, cpus, code, limit)?;
+    let mut run = Run::begin(alloc, &start)?;
+    let mut wrong = 0u64;
+    for (by, entry, case) in cases.iter() {
+        if !holds(&mut run, alloc, *by, entry, *case)? {
+            wrong = wrong.saturating_add(1);
+        }
+    }
+    Ok((run, wrong))
+}
+
+/// Whether the entries of the history are lawful as the row says, and none for another pass.
+fn fits_row(run: &Run, row: &[bool; 9]) -> bool {
+    row.iter().zip(HISTORY.iter()).all(|(lawful, (by, other))| {
+        run.may(*by, other) == *lawful && !run.may(2, other) && !run.may(1 - (*by).min(1), other)
+    })
+}
+
+#[test]
+fn each_entry_has_its_place(rt: HostRuntime) -> Result<(), Fail> {
+    let start = start_of(rt.alloc(), 1, &ONE_BYTE, 10_000_000)?;
+    let mut run = Run::begin(rt.alloc(), &start)?;
+    for (row, (by, entry)) in LAWFUL.iter().zip(HISTORY.iter()) {
+        assert!(rt; fits_row(&run, row));
+        assert!(rt; add(&mut run, rt.alloc(), *by, entry)?);
+    }
+    assert!(rt; fits_row(&run, &[false; 9]));
+    assert_eq!(rt; run.console(), b"A".as_slice());
+    assert_eq!(rt;
+        (run.executed(), run.place(), run.room()),
+        (4, 1, 9_999_996)
+    );
+    assert_eq!(rt;
+        (run.ended(), run.closed(), run.quiet()),
+        (Some(Why::Finished), true, true)
+    );
+    run.is_sound();
+    let cpu = run.cpu(0);
+    assert_eq!(rt; (cpu.ctx.rip, cpu.ctx.regs[0], cpu.halted), (9, 0x41, true));
+    assert_eq!(rt; (run.eager(0), run.ran(0), run.left(0)), (false, 4, 0));
+    assert_eq!(rt; run.machine().code.as_slice(), ONE_BYTE.as_slice());
+    Ok(())
+}
+
+/// Entries of rows that aren't built, which are lawful nowhere.
+const NOT_BUILT: [Entry; 13] = [
+    Entry::Start { cpu: 0 },
+    Entry::Sleep { cpu: 0 },
+    Entry::Wake { cpu: 0 },
+    Entry::Turn { cpu: 0 },
+    Entry::Meet,
+    Entry::Pull { disk: 0 },
+    Entry::Begin { disk: 0, id: 0 },
+    Entry::Move { disk: 0, id: 0 },
+    Entry::Hold { disk: 0, id: 0 },
+    Entry::Put {
+        disk: 0,
+        id: 0,
+        ok: true,
+    },
+    Entry::Finish { disk: 0, id: 0 },
+    Entry::Feed,
+    Entry::Wish,
+];
+
+#[test]
+fn what_isnt_built_is_lawful_nowhere(rt: HostRuntime) -> Result<(), Fail> {
+    let (run, wrong) = play(
+        rt.alloc(),
+        1,
+        &ONE_BYTE,
+        100,
+        &[(1, Entry::Claim { cpu: 0 }, Case::Adds)],
+    )?;
+    assert_eq!(rt; wrong, 0);
+    for by in 0..3 {
+        for entry in NOT_BUILT.iter() {
+            assert!(rt; !run.may(by, entry));
+        }
+    }
+    Ok(())
+}
+
+/// Two vCPUs, of which the second isn't started, and 1,000 instructions.
+const BOUNDS: [(u16, Entry, Case); 20] = [
+    (1, Entry::Claim { cpu: 1 }, Case::No),
+    (0, Entry::Claim { cpu: 0 }, Case::No),
+    (3, Entry::Claim { cpu: 2 }, Case::No),
+    (1, Entry::Claim { cpu: 0 }, Case::Adds),
+    (2, Entry::Claim { cpu: 1 }, Case::Adds),
+    (2, Entry::Enter { cpu: 1, grant: 1 }, Case::No),
+    (1, Entry::Enter { cpu: 0, grant: 0 }, Case::No),
+    (1, Entry::Enter { cpu: 0, grant: 1 }, Case::May),
+    (
+        1,
+        Entry::Enter {
+            cpu: 0,
+            grant: 1001,
+        },
+        Case::No,
+    ),
+    (
+        1,
+        Entry::Enter {
+            cpu: 0,
+            grant: 1000,
+        },
+        Case::Adds,
+    ),
+    (1, Entry::Exit { cpu: 0 }, Case::No),
+    (1, Entry::Slice { cpu: 0, n: 0 }, Case::No),
+    (1, Entry::Slice { cpu: 0, n: 1 }, Case::May),
+    (1, Entry::Slice { cpu: 0, n: 3 }, Case::No),
+    (1, Entry::Slice { cpu: 0, n: 2 }, Case::Adds),
+    (
+        0,
+        Entry::End {
+            why: EndCause::Budget,
+        },
+        Case::No,
+    ),
+    (
+        1,
+        Entry::End {
+            why: EndCause::Outside,
+        },
+        Case::No,
+    ),
+    (
+        0,
+        Entry::End {
+            why: EndCause::Outside,
+        },
+        Case::Adds,
+    ),
+    (
+        0,
+        Entry::End {
+            why: EndCause::Outside,
+        },
+        Case::No,
+    ),
+    (0, Entry::Close, Case::No),
+];
+
+/// The largest grant is 1,024.
+const LARGE: [(u16, Entry, Case); 3] = [
+    (1, Entry::Claim { cpu: 0 }, Case::Adds),
+    (
+        1,
+        Entry::Enter {
+            cpu: 0,
+            grant: 1025,
+        },
+        Case::No,
+    ),
+    (
+        1,
+        Entry::Enter {
+            cpu: 0,
+            grant: 1024,
+        },
+        Case::Adds,
+    ),
+];
+
+#[test]
+fn grants_and_slices_have_their_bounds(rt: HostRuntime) -> Result<(), Fail> {
+    let (run, wrong) = play(rt.alloc(), 2, &ONE_BYTE, 1000, &BOUNDS)?;
+    assert_eq!(rt; wrong, 0);
+    assert_eq!(rt; (run.ended(), run.room()), (Some(Why::Outside), 0));
+    run.is_sound();
+    assert_eq!(rt; (run.left(0), run.cpu(0).stage), (998, Owned::Running(1)));
+    let (run, wrong) = play(rt.alloc(), 1, &ONE_BYTE, 10_000_000, &LARGE)?;
+    assert_eq!(rt; wrong, 0);
+    assert_eq!(rt; run.room(), 9_998_976);
+    Ok(())
+}
+
+/// A guest that jumps to itself, with a limit of 1,000.
+const LOOP: [(u16, Entry, Case); 9] = [
+    (1, Entry::Claim { cpu: 0 }, Case::Adds),
+    (
+        1,
+        Entry::Enter {
+            cpu: 0,
+            grant: 1000,
+        },
+        Case::Adds,
+    ),
+    (1, Entry::Slice { cpu: 0, n: 999 }, Case::Adds),
+    (
+        0,
+        Entry::End {
+            why: EndCause::Budget,
+        },
+        Case::No,
+    ),
+    (1, Entry::Slice { cpu: 0, n: 1 }, Case::Adds),
+    (1, Entry::Exit { cpu: 0 }, Case::Adds),
+    (
+        0,
+        Entry::End {
+            why: EndCause::Budget,
+        },
+        Case::Adds,
+    ),
+    (1, Entry::Yield { cpu: 0 }, Case::Adds),
+    (0, Entry::Close, Case::Adds),
+];
+
+#[test]
+fn a_loop_uses_its_limit_up(rt: HostRuntime) -> Result<(), Fail> {
+    let (run, wrong) = play(rt.alloc(), 1, &[0xEB, 0xFE], 1000, &LOOP)?;
+    assert_eq!(rt; wrong, 0);
+    assert_eq!(rt; (run.ended(), run.closed()), (Some(Why::Budget), true));
+    assert_eq!(rt;
+        (run.executed(), run.place(), run.console().len()),
+        (1000, 0, 0)
+    );
+    Ok(())
+}
+
+/// A running vCPU.
+const RUNNING: [(u16, Entry, Case); 2] = [
+    (1, Entry::Claim { cpu: 0 }, Case::Adds),
+    (1, Entry::Enter { cpu: 0, grant: 9 }, Case::Adds),
+];
+
+/// Runs instructions one by one for as long as one may.
+fn run_single(alloc: Global, code: &[u8]) -> Result<Run, OutOfMemory>
+    requires some_code { 1 ≤ length code.now }
+    requires code { length code.now ≤ 4096 }
+{
+    let (mut run, _wrong) = play(alloc, 1, code, 100, &RUNNING)?;
+    for _ in 0..9 {
+        if !add(&mut run, alloc, 1, &Entry::Slice { cpu: 0, n: 1 })? {
+            add(&mut run, alloc, 1, &Entry::Step { cpu: 0 })?;
+        }
+    }
+    Ok(run)
+}
+
+/// Code, a register, its value at HLT, and where RIP stands behind it.
+static EFFECTS: [(&[u8], usize, u64, u64); 9] = [
+    (&[0xB8, 0xFF, 0xFF, 0xFF, 0xFF, 0xF4], 0, 0xFFFF_FFFF, 6),
+    (&[0xB9, 1, 2, 3, 4, 0xB1, 0xAA, 0xF4], 1, 0x0403_02AA, 8),
+    (&[0xBA, 1, 2, 3, 4, 0xB6, 0xBB, 0xF4], 2, 0x0403_BB01, 8),
+    (&[0xB3, 0x80, 0xB7, 0x7F, 0xF4], 3, 0x7F80, 5),
+    (&[0xBC, 1, 0, 0, 0, 0xB4, 0x12, 0xF4], 4, 1, 8),
+    (&[0xB4, 0x12, 0xB5, 0x34, 0xF4], 0, 0x1200, 5),
+    (&[0xBF, 0x78, 0x56, 0x34, 0x92, 0xF4], 7, 0x9234_5678, 6),
+    (&[0xEB, 2, 0xB0, 1, 0xF4], 0, 0, 5),
+    (&[0xEB, 3, 0xB0, 1, 0xF4, 0xEB, 0xFB], 0, 1, 5),
+];
+
+fn has_effect(run: &Run, register: usize, value: u64, rip: u64) -> bool
+    requires { register < 16 }
+{
+    run.is_sound();
+    let cpu = run.cpu(0);
+    let halts = cpu.halted && run.quiet() && run.console().is_empty();
+    halts && cpu.ctx.regs[register] == value && cpu.ctx.rip == rip
+}
+
+#[test]
+fn instructions_do_what_they_are_to(rt: HostRuntime) -> Result<(), Fail> {
+    for (code, register, value, rip) in EFFECTS.iter() {
+        assert!(rt; !code.is_empty() && code.len() <= 4096 && *register < 16);
+        let run = run_single(rt.alloc(), code)?;
+        assert!(rt; has_effect(&run, *register, *value, *rip));
+    }
+    Ok(())
+}
+
+/// Code, its stop, where that is, and how many instructions stand before it.
+static STOPS: [(&[u8], Stop, u64, u64); 8] = [
+    (&[0x0F, 0x0B], Stop::NotBuilt, 0, 0),
+    (&[0x0F, 0x05], Stop::NotBuilt, 0, 0),
+    (&[0x90], Stop::NotBuilt, 0, 0),
+    (&[0xBA, 0xF8, 0x03], Stop::Fetch, 0, 0),
+    (&[0xB0, 0x41], Stop::Fetch, 2, 1),
+    (&[0xEB, 0x10], Stop::Fetch, 18, 1),
+    (&[0xEB, 0xFD], Stop::Fetch, 0xFFFF_FFFF_FFFF_FFFF, 1),
+    (&[0xB0, 0x41, 0xEE, 0x48, 0xB8], Stop::Fetch, 3, 2),
+];
+
+#[test]
+fn what_cannot_be_done_stops(rt: HostRuntime) -> Result<(), Fail> {
+    for (code, stop, rip, executed) in STOPS.iter() {
+        assert!(rt; !code.is_empty() && code.len() <= 4096);
+        let run = run_single(rt.alloc(), code)?;
+        let why = Why::Stopped {
+            cpu: 0,
+            stop: *stop,
+            rip: *rip,
+        };
+        assert!(rt; run.ended() == Some(why) && run.executed() == *executed);
+        assert!(rt; run.console().is_empty());
+    }
+    Ok(())
+}
+
+#[test]
+fn a_slice_can_be_put(rt: HostRuntime) -> Result<(), Fail> {
+    let (mut run, wrong) = play(rt.alloc(), 1, &ONE_BYTE, 100, &RUNNING)?;
+    assert_eq!(rt; wrong, 0);
+    run.is_sound();
+    let before = run.cpu(0).ctx;
+    assert!(rt; all_local(&ONE_BYTE, &before, 2) && !all_local(&ONE_BYTE, &before, 3));
+    let mut ctx = before;
+    let n = run_slice(run.machine().code.as_slice(), &mut ctx, run.left(0));
+    assert_eq!(rt; (n, ctx.rip, ctx.regs[2]), (2, 7, 0x3F8));
+    let lawful = run.may(1, &Entry::Slice { cpu: 0, n });
+    assert!(rt; lawful);
+    run.put_slice(1, 0, n, ctx);
+    assert_eq!(rt;
+        (run.executed(), run.left(0), run.cpu(0).ctx.rip),
+        (2, 7, 7)
+    );
+    Ok(())
+}
+
+#[test]
+fn what_stands_next_is_found(rt: HostRuntime) -> Result<(), Fail> {
+    let (run, wrong) = play(rt.alloc(), 1, &ONE_BYTE, 100, &RUNNING)?;
+    assert_eq!(rt; wrong, 0);
+    run.is_sound();
+    let insn = Insn {
+        lock: false,
+        width: Width::D,
+        op: Op::Mov(Loc::Reg(2), Src::Imm(0x3F8)),
+    };
+    assert_eq!(rt;
+        next_of(&ONE_BYTE, &run.cpu(0).ctx),
+        Next::Local { insn, len: 5 }
+    );
+    Ok(())
+}
