@@ -1,5 +1,5 @@
 -- The registers by their offsets.
-use Rattle.std.proofs.Common.{◌≡◌, Some, None, Bool, true, false, ◌&&◌, List, [], ◌∷◌, refl, subst, ap, inl, inr}
+use Rattle.std.proofs.Common.{◌≡◌, Some, Bool, true, false, List, [], ◌∷◌, refl, subst}
 use Rattle.std.specs.Prelude.{ℕ, find, Option, if◌then◌else◌, ◌==◌}
 use Rattle.std.specs.List.{list_all}
 use Rattle.std.proofs.lemmas.Bool.{and_parts}

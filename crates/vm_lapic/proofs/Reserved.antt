@@ -1,6 +1,6 @@
 -- Vectors below 16 never come into IRR or ISR, and the delivery status is never kept.
 use Rattle.std.specs.Prelude.{Option, option_and_then, unwrap_or, IsSome}
-use Rattle.std.proofs.Common.{◌≡◌, Some, None, ℕ, ◌*◌, ◌-◌, ◌/◌, ◌%◌, ◌^◌, ◌+◌, ◌<◌, ◌≤◌, Bool, true, false, refl, sym, ap, subst, arith, inl, inr, ◌∙◌, bit_and}
+use Rattle.std.proofs.Common.{◌≡◌, Some, None, ℕ, List, ◌*◌, ◌^◌, ◌+◌, ◌<◌, ◌≤◌, true, sym, ap, subst, arith, inl, inr, ◌∙◌, bit_and}
 use Rattle.std.proofs.lemmas.Bool.{cases_lt}
 use Rattle.std.proofs.lemmas.Bool.Decides.{nat_tests}
 use Rattle.std.proofs.lemmas.Grind.{common_steps}
@@ -9,10 +9,12 @@ use Rattle.std.proofs.lemmas.Nat.Bits.{and_pow, bit_at-lt}
 use Rattle.std.specs.Int.{bit_at}
 use Rattle.std.specs.Ordering.{nat_cmp}
 use Rattle.std.specs.FinSet.{insert, remove, empty, members, contains-empty}
-use Rattle.vm_vectors.specs.Vectors.{Vectors, has, highest}
+use Rattle.vm_vectors.specs.Vectors.{Vectors, has, highest, bytes_of, vectors_of}
 use Rattle.vm_vectors.proofs.Highest.{highest_tells}
 use Rattle.vm_lapic.specs.Apic.{Apic, NoneReserved, ready, ppr, above}
+use Rattle.vm_vectors.proofs.Bits.{first_byte-bytes_of, second_byte-bytes_of, no_bit-vectors_of}
 use Rattle.vm_lapic.specs.Command.{cleared}
+use Rattle.vm_lapic.specs.Saved.{NoneSaved}
 
 pub none_in_empty : NoneReserved empty
 none_in_empty v l = contains-empty nat_cmp v
@@ -62,3 +64,15 @@ pub ruleset command_bits = (masked_is, cleared_bit)
 pub some_is : (o r : Option ℕ) (v : ℕ) → IsSome o → r ≡ o → v ≡ unwrap_or r 0 → o ≡ Some v
 some_is None r v h e f = absurd (grind (arith, common_steps))
 some_is (Some w) r v h e f = let g : v ≡ w = f ∙ ap (λ (x : Option ℕ). unwrap_or x 0) e in sym (ap Some g)
+
+-- a set without vectors below 16, and its saved form
+pub saved_none : (s : Vectors) (bytes : List ℕ) → bytes ≡ bytes_of s → NoneReserved s → NoneSaved bytes
+saved_none s bytes same none = subst (λ (bs : List ℕ). NoneSaved bs) (sym same) (first_byte-bytes_of s (λ b l. none b (omega arith)), second_byte-bytes_of s (λ b l. none (8 + b) (omega arith)))
+
+pub read_none : (s : Vectors) (bytes : List ℕ) → s ≡ vectors_of bytes → NoneSaved bytes → NoneReserved s
+read_none s bytes same none v l =
+    ap (λ (x : Vectors). has x v) same
+    ∙ elim (cases_lt v 8) [
+      | inl less ↦ no_bit-vectors_of bytes 0 v (omega arith) (omega arith) none.0
+      | inr more ↦ no_bit-vectors_of bytes 1 v (omega arith) (omega arith) none.1
+    ]

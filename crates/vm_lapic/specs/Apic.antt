@@ -1,6 +1,6 @@
 -- A local APIC: what it holds, what it may deliver, and what a post, a service and an EOI do.
 -- Source: Intel SDM volume 3, sections 10.8.3 to 10.8.5 and 10.9.
-use Rattle.std.specs.Prelude.{◌≡◌, refl, ℕ, ◌+◌, ◌*◌, ◌/◌, ◌%◌, ◌^◌, ◌<◌, Bool, true, false, Option, Some, None, nat_lt, nat_le, ◌==◌, if◌then◌else◌, option_and_then, unwrap_or}
+use Rattle.std.specs.Prelude.{◌≡◌, refl, ℕ, ◌*◌, ◌/◌, ◌<◌, Bool, false, Option, Some, None, nat_lt, nat_le, ◌==◌, if◌then◌else◌, option_and_then, unwrap_or}
 use Rattle.std.specs.Int.{bit_at}
 use Rattle.std.specs.FinSet as set
 use Rattle.std.specs.Coded.{Coded, code_by, coded×, coded_ℕ}

@@ -1,9 +1,9 @@
 -- A local APIC's saved form.
-use Rattle.std.specs.Prelude.{◌≡◌, ℕ, ◌+◌, ◌*◌, ◌/◌, ◌%◌, ◌^◌}
+use Rattle.std.specs.Prelude.{◌≡◌, ℕ, ◌+◌, ◌*◌, ◌/◌, ◌%◌, ◌^◌, List, slice_index}
 use Rattle.std.specs.Int.{bit_at}
 use Rattle.vm_law.specs.declared.chips.LapicState.{LapicState}
 use Rattle.vm_vectors.specs.Vectors.{bytes_of, vectors_of}
-use Rattle.vm_lapic.specs.Apic.{Apic, NoneReserved}
+use Rattle.vm_lapic.specs.Apic.{Apic}
 
 -- its state as it is saved
 unfoldable pub saved_of : Apic → LapicState
@@ -36,8 +36,12 @@ apic_of s = record {
   timer_divide = s.timer_divide;
 }
 
+-- no vector below 16 is in a saved set: those are the bits of its first two bytes
+abbrev pub NoneSaved : List ℕ → Type 0
+NoneSaved bytes = (slice_index bytes 0 ≡ 0) × (slice_index bytes 1 ≡ 0)
+
 -- a state that an APIC can have: no vector below 16 is requested or in service, and the delivery status is 0
 pub record IsSaved (s : LapicState) : Type 0 where
-  pub requested : NoneReserved (vectors_of s.irr)
-  pub in_service : NoneReserved (vectors_of s.isr)
+  pub requested : NoneSaved s.irr
+  pub in_service : NoneSaved s.isr
   pub delivery_status : bit_at s.icr 12 ≡ 0

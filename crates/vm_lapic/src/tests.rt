@@ -3,9 +3,13 @@ use vm_law::{Dest, LapicState, Message, Mode};
 use vm_vectors::VectorSet;
 
 const TPR: u32 = 0x80;
+
 const EOI: u32 = 0xB0;
+
 const SVR: u32 = 0xF0;
+
 const ICR_LOW: u32 = 0x300;
+
 const ICR_HIGH: u32 = 0x310;
 
 fn enabled(cpu: u8) -> Lapic {
@@ -105,7 +109,14 @@ fn sets_are_read_as_words(rt: HostRuntime) {
     level.insert(0xFF);
     level.insert(0x20);
     lapic.set_tmr(level);
-    let words = [(0x170, 0x8000_0000), (0x1F0, 0x8000_0000), (0x190, 1), (0x220, 6), (0x270, 0), (0x221, 0)];
+    let words = [
+        (0x170, 0x8000_0000),
+        (0x1F0, 0x8000_0000),
+        (0x190, 1),
+        (0x220, 6),
+        (0x270, 0),
+        (0x221, 0),
+    ];
     for (offset, word) in words {
         assert_eq!(rt; lapic.read(offset), word, "at {offset}");
     }
@@ -135,7 +146,11 @@ fn commands(rt: HostRuntime) {
         let mut lapic = Lapic::new(3);
         assert_eq!(rt; lapic.write(ICR_HIGH, high), LapicEffect::Nothing);
         let message = Message { vector, mode, dest };
-        assert_eq!(rt; lapic.write(ICR_LOW, low), LapicEffect::Send(message), "command {low}");
+        assert_eq!(rt;
+            lapic.write(ICR_LOW, low),
+            LapicEffect::Send(message),
+            "command {low}"
+        );
         assert_eq!(rt; lapic.read(ICR_LOW), low);
     }
 }

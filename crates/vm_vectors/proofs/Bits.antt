@@ -4,7 +4,7 @@ use Rattle.std.proofs.Common.{◌≡◌, ℕ, zero, suc, ◌+◌, ◌*◌, ◌/�
 use Rattle.std.proofs.lemmas.Bool.{cases_lt}
 use Rattle.std.proofs.lemmas.Grind.{pow_more}
 use Rattle.std.proofs.lemmas.Nat.{mod-pow-add, pow_below, one_shl}
-use Rattle.std.proofs.lemmas.Nat.Bits.{bit_at_cat_low, bit_at_cat_high, bit_at-lt}
+use Rattle.std.proofs.lemmas.Nat.Bits.{bit_at_cat_low, bit_at_cat_high, bit_at-lt, bit_at-zero}
 use Rattle.std.proofs.lemmas.List.FromFn.{fill_by_all, get_or-map-range_with_len, length-map-range_with_len}
 use Rattle.std.specs.List.{range_with_len}
 use Rattle.std.specs.Int.{bit_at}
@@ -132,6 +132,29 @@ vectors_of-bytes_of s small =
       | inl l ↦ has_vectors_of (bytes_of s) q l ∙ bit_back s q l
       | inr l ↦ none_past (bytes_of s) q l ∙ sym (small q l)
     ])
+
+-- the first two bytes of a saved form, where no vector of theirs is a member
+number_none : (p : ℕ → Bool) (n : ℕ) → ((b : ℕ) → b < n → p b ≡ false) → number_of p n ≡ 0
+number_none p zero none = refl
+number_none p (suc n) none = rw (none n (omega arith)) (omega (arith, number_none p n (λ b l. none b (omega arith))))
+
+byte_of : (s : Vectors) (k : ℕ) → k < 32 → get_or (bytes_of s) k 0 ≡ number_of (λ b. has s (8 * k + b)) 8
+unfolding bytes_of bits_of
+byte_of s k l = get_or-map-range_with_len (λ j. bits_of s (8 * j) 8) 0 32 k k 0 l (omega arith)
+
+pub first_byte-bytes_of : (s : Vectors) → ((b : ℕ) → b < 8 → has s b ≡ false) → get_or (bytes_of s) 0 0 ≡ 0
+first_byte-bytes_of s none = byte_of s 0 (omega arith) ∙ number_none (λ b. has s (8 * 0 + b)) 8 (λ b l. let e : 8 * 0 + b ≡ b = omega arith in ap (has s) e ∙ none b l)
+
+pub second_byte-bytes_of : (s : Vectors) → ((b : ℕ) → b < 8 → has s (8 + b) ≡ false) → get_or (bytes_of s) 1 0 ≡ 0
+second_byte-bytes_of s none = byte_of s 1 (omega arith) ∙ number_none (λ b. has s (8 * 1 + b)) 8 none
+
+-- no vector of a byte that is 0 is a member
+pub no_bit-vectors_of : (bs : List ℕ) (k v : ℕ) → v < 256 → v / 8 ≡ k → get_or bs k 0 ≡ 0 → has (vectors_of bs) v ≡ false
+no_bit-vectors_of bs k v l byte none =
+    has_vectors_of bs v l
+    ∙ ap (λ j. eqb (bit_at (get_or bs j 0) (v % 8)) 1) byte
+    ∙ ap (λ n. eqb (bit_at n (v % 8)) 1) none
+    ∙ ap (λ n. eqb n 1) (bit_at-zero (v % 8))
 
 pub bits_more : (s : Vectors) (v n : ℕ) → bits_of s v (n + 1) ≡ bits_of s v n + (if has s (v + n) then 2 ^ n else 0)
 unfolding bits_of

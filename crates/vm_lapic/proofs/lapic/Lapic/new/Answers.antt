@@ -1,4 +1,4 @@
-use Rattle.std.proofs.Common.{refl, subst, sym, ap}
+use Rattle.std.proofs.Common.{refl, subst, sym}
 use Rattle.vm_vectors.specs.Vectors.{Vectors}
 use Rattle.vm_lapic.specs.Apic.{NoneReserved}
 use Rattle.vm_lapic.proofs.Reserved.{none_in_empty}

@@ -1,5 +1,5 @@
-use Rattle.std.proofs.Common.{◌≡◌, Some, sym, ◌∙◌, true, rules}
-use Rattle.vm_lapic.specs.Window.{is_register, register_at}
+use Rattle.std.proofs.Common.{◌≡◌, sym, ◌∙◌, true, rules}
+use Rattle.vm_lapic.specs.Window.{is_register}
 use Rattle.vm_lapic.proofs.Registers.{found_is_register}
 use Rattle.vm_lapic.proofs.lapic.Lapic.read.Goals as goal
 

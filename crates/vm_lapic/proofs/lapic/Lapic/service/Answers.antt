@@ -1,4 +1,4 @@
-use Rattle.std.proofs.Common.{◌≡◌, Some, subst, sym, ◌∙◌, ap, ◌≤◌}
+use Rattle.std.proofs.Common.{◌≡◌, Some, subst, sym, ap, ◌≤◌}
 use Rattle.vm_vectors.specs.Vectors.{Vectors}
 use Rattle.vm_lapic.specs.Apic.{Apic, NoneReserved, ready}
 use Rattle.vm_lapic.proofs.Reserved.{none_after_insert, none_after_remove, ready_allowed, some_is}
