@@ -1,0 +1,4 @@
+pub mod Apic
+pub mod Command
+pub mod Window
+pub mod Saved

@@ -1,0 +1,14 @@
+//! Sets of interrupt vectors, as a local APIC's IRR, ISR and TMR hold them.
+//!
+//! `VectorSet` is a set of numbers below 256. Its contracts speak of a finite set; that it is kept as truth values,
+//! and how registers and saved forms show it as bits, is said by `word`, `to_bytes` and `from_bytes` alone.
+//!
+//! Source: Intel SDM volume 3, section 10.8.4.
+#![tactic(auto)]
+
+mod vector_set;
+
+pub use vector_set::VectorSet;
+
+#[cfg(test)]
+mod tests;
