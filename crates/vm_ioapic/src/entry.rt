@@ -35,7 +35,7 @@ pub struct Redirection {
 
 impl DeliveryMode {
     /// The mode that the low three bits of a number name.
-    pub fn from_number(number: u32) -> DeliveryMode
+    pub(crate) fn from_number(number: u32) -> DeliveryMode
         ensures { result ≡ spec.mode_of (number % 8) }
     {
         match number % 8 {
@@ -51,7 +51,7 @@ impl DeliveryMode {
     }
 
     /// Its number, below 8.
-    pub fn number(self) -> u32
+    pub(crate) fn number(self) -> u32
         ensures value { result ≡ spec.mode_number self }
         ensures small { result < 8 }
     {
@@ -81,7 +81,7 @@ impl DeliveryMode {
 
 impl Redirection {
     /// An entry at reset: it is masked, and all else in it is 0.
-    pub const AT_RESET: Redirection = Redirection {
+    pub(crate) const AT_RESET: Redirection = Redirection {
         vector: 0,
         mode: DeliveryMode::Fixed,
         logical: false,
@@ -93,7 +93,7 @@ impl Redirection {
 
     /// The low half of the entry as a word, with the remote IRR of its pin.
     #[tactic(auto, unfolding(crate::specs::Entry::low_half))]
-    pub fn low(&self, remote_irr: bool) -> u32
+    pub(crate) fn low(&self, remote_irr: bool) -> u32
         ensures { result ≡ spec.low_half self.now remote_irr }
     {
         self.vector as u32
@@ -106,7 +106,7 @@ impl Redirection {
     }
 
     /// The high half of the entry as a word.
-    pub fn high(&self) -> u32
+    pub(crate) fn high(&self) -> u32
         ensures { result ≡ spec.high_half self.now }
     {
         (self.destination as u32) << 24
@@ -114,7 +114,7 @@ impl Redirection {
 
     /// The entry with another low half, of which bits 0 to 11, 13, 15 and 16 are kept.
     #[tactic(auto, unfolding(crate::specs::Entry::with_low))]
-    pub fn with_low(self, word: u32) -> Redirection
+    pub(crate) fn with_low(self, word: u32) -> Redirection
         ensures { result ≡ spec.with_low self word }
     {
         Redirection {
@@ -130,7 +130,7 @@ impl Redirection {
 
     /// The entry with another high half, of which bits 24 to 31 are kept.
     #[tactic(auto, unfolding(crate::specs::Entry::with_high))]
-    pub fn with_high(self, word: u32) -> Redirection
+    pub(crate) fn with_high(self, word: u32) -> Redirection
         ensures { result ≡ spec.with_high self word }
     {
         Redirection {
@@ -141,7 +141,7 @@ impl Redirection {
 
     /// Whether the entry routes differently from another: polarity and mask don't count.
     #[tactic(auto, unfolding(crate::specs::Entry::routes))]
-    pub fn routes(&self, other: &Redirection) -> bool
+    pub(crate) fn routes(&self, other: &Redirection) -> bool
         ensures { result ≡ spec.routes self.now other.now }
     {
         self.vector != other.vector
@@ -152,7 +152,7 @@ impl Redirection {
     }
 
     /// Whom the entry is for.
-    pub fn destination_of(&self) -> Dest
+    pub(crate) fn destination_of(&self) -> Dest
         ensures { result ≡ spec.destination_of self.now }
     {
         if self.logical {
@@ -166,7 +166,7 @@ impl Redirection {
 
     /// The message that a pin with this entry sends.
     #[tactic(auto, unfolding(crate::specs::Entry::message_of))]
-    pub fn message(&self) -> Message
+    pub(crate) fn message(&self) -> Message
         ensures { result ≡ spec.message_of self.now }
     {
         Message {

@@ -23,7 +23,7 @@ impl Model for Messages {
 
 impl Messages {
     /// No message.
-    pub fn new() -> Messages
+    pub(crate) fn new() -> Messages
         ensures { result ≡ [] }
     {
         let blank = Message {
@@ -38,7 +38,7 @@ impl Messages {
     }
 
     /// Adds a message at the end.
-    pub fn push(&mut self, message: Message)
+    pub(crate) fn push(&mut self, message: Message)
         requires { length self.old < 32 }
         ensures { self.new ≡ self.old ++ message ∷ [] }
     {

@@ -19,7 +19,7 @@ impl Pin {
     ghost use Rattle.vm_ioapic.specs.Ioapic.{change_to, is_level_for};
 
     /// A pin at reset: its entry is masked, and it isn't asserted.
-    pub const AT_RESET: Pin = Pin {
+    pub(crate) const AT_RESET: Pin = Pin {
         entry: Redirection::AT_RESET,
         count: 0,
         remote_irr: false,
@@ -53,7 +53,7 @@ impl Pin {
 
     /// Asserts the pin once more.
     #[tactic(auto, unfolding(crate::specs::Pin::raised))]
-    pub fn raise(&mut self) -> Option<Message>
+    pub(crate) fn raise(&mut self) -> Option<Message>
         requires { self.old.count + 1 < 2 ^ 32 }
         ensures message { result ≡ spec.message_if (spec.raise_sends self.old) self.old }
         ensures after { self.new ≡ spec.raised self.old }
@@ -65,7 +65,7 @@ impl Pin {
 
     /// Asserts the pin once less.
     #[tactic(auto, unfolding(crate::specs::Pin::lowered))]
-    pub fn lower(&mut self)
+    pub(crate) fn lower(&mut self)
         requires { 0 < self.old.count }
         ensures { self.new ≡ spec.lowered self.old }
     {
@@ -74,7 +74,7 @@ impl Pin {
 
     /// An EOI of a vector.
     #[tactic(auto, unfolding(crate::specs::Pin::after_eoi, crate::specs::Pin::eoi_message))]
-    pub fn eoi(&mut self, vector: u8) -> Option<Message>
+    pub(crate) fn eoi(&mut self, vector: u8) -> Option<Message>
         ensures message { result ≡ spec.eoi_message vector self.old }
         ensures after { self.new ≡ spec.after_eoi vector self.old }
     {
@@ -82,13 +82,13 @@ impl Pin {
             return None;
         }
         self.remote_irr = false;
-        let sends = self.is_due();
-        self.send_if(sends)
+        let again = self.is_due();
+        self.send_if(again)
     }
 
     /// Gives the pin another entry.
     #[tactic(auto, unfolding(crate::specs::Pin::after_write, crate::specs::Pin::write_message))]
-    pub fn write(&mut self, entry: Redirection) -> Option<Message>
+    pub(crate) fn write(&mut self, entry: Redirection) -> Option<Message>
         ensures message { result ≡ spec.write_message self.old entry }
         ensures after { self.new ≡ spec.after_write self.old entry }
     {
@@ -99,7 +99,7 @@ impl Pin {
     }
 
     /// Gives the pin another entry, and tells what follows.
-    pub fn change(&mut self, entry: Redirection) -> RteChange
+    pub(crate) fn change(&mut self, entry: Redirection) -> RteChange
         ensures change { result ≡ change_to self.old entry }
         ensures after { self.new ≡ spec.after_write self.old entry }
     {
@@ -109,7 +109,7 @@ impl Pin {
     }
 
     /// The low half of the entry as a word, with the remote IRR.
-    pub fn low(&self) -> u32
+    pub(crate) fn low(&self) -> u32
         ensures { result ≡ low_half self.now.entry self.now.remote_irr }
     {
         self.entry.low(self.remote_irr)
@@ -117,7 +117,7 @@ impl Pin {
 
     /// Whether the entry is level and its targets hold vCPU number `cpu` of `cpus`.
     #[tactic(auto, unfolding(crate::specs::Ioapic::is_level_for))]
-    pub fn is_level_for(&self, cpu: u8, cpus: u8) -> bool
+    pub(crate) fn is_level_for(&self, cpu: u8, cpus: u8) -> bool
         ensures { result ≡ is_level_for cpu cpus self.now }
     {
         self.entry.level && is_target(self.entry.destination_of(), cpu, cpus)

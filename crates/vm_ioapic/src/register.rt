@@ -21,7 +21,7 @@ impl Register {
 
     /// The register at an offset, where the index `select` is selected.
     #[tactic(auto, unfolding(crate::specs::Register::register_at))]
-    pub fn at(select: u8, offset: u32) -> Register
+    pub(crate) fn at(select: u8, offset: u32) -> Register
         ensures register { result ≡ spec.register_at select offset }
         ensures pin { spec.HasPin result }
     {
