@@ -1,0 +1,5 @@
+pub mod Entry
+pub mod Ioapic
+pub mod Pin
+pub mod Register
+pub mod Saved
