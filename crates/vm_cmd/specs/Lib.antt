@@ -1,0 +1,6 @@
+pub mod Answers
+pub mod Form
+pub mod Matched
+pub mod Shapes
+pub mod Table
+pub mod Word
