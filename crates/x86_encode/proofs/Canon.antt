@@ -497,26 +497,26 @@ module _ (labels : Labels) (row : Row) (among : Contains ROWS row) (h : Head) (f
         value = mean2;
       } in
       let holds : HoldsLabels labels parts2 = record { displacement = mp.long; immediate = long_imm } in
-      let all_fits : Fits labels insn row = subst (λ (q : Parts). Fitting row q insn × HoldsLabels labels q) (sym plain2) (fitting, holds) in
+      let all_fits : Fits labels insn row = subst (λ (q : Parts). Fitting row q insn × HoldsLabels labels q) {x = parts2} {y = plain_by labels row insn} (sym plain2) (fitting, holds) in
       -- and no later
       let pre = prefix_bytes size2 p.lock row.rep in
       let rexb = rex_bytes rex2 in
       let opb = opcode_bytes row.map h.byte in
       let calm = no_clash h (live_from row h ms among fit) in
       let rb = rex_below must wide r pl.x b rx is_head.rex bits is_head.is_rex in
-      let le_first : Le (pre ++ (rexb ++ opb)) first = subst (λ (l : List ℕ). Le (pre ++ (rexb ++ opb)) l) (sym is_head.parts)
+      let le_first : Le (pre ++ (rexb ++ opb)) first = subst (λ (l : List ℕ). Le (pre ++ (rexb ++ opb)) l) {x = is_head.prefixes ++ (is_head.rex ++ is_head.opcode)} {y = first} (sym is_head.parts)
       (Le-append pre is_head.prefixes (rexb ++ opb) (is_head.rex ++ is_head.opcode)
       (prefixes_below size2 p.lock row.rep p is_head.prefixes is_head.are_prefixes (λ q. size_is_needed row.class p rx q) (λ q. q) (λ q. bool_is p.rep row.rep t.rep q) calm)
       (Le-append rexb is_head.rex opb is_head.opcode (record { len = rb.0; lex = rb.1 })
       (Le-same opb is_head.opcode (opcode_is row.map h.map h.byte is_head.opcode (map_is row.map h.map t.map) is_head.is_opcode)))) in
       let le_tail : Le (ms2 ++ (pl.sib ++ (pl.disp ++ imm))) (ms ++ (sib ++ (disp ++ imm))) =
-      subst (λ (l : List ℕ). Le l (ms ++ (sib ++ (disp ++ imm)))) (regroup ms2 pl.sib pl.disp imm)
-      (subst (λ (l : List ℕ). Le ((ms2 ++ (pl.sib ++ pl.disp)) ++ imm) l) (regroup ms sib disp imm)
+      subst (λ (l : List ℕ). Le l (ms ++ (sib ++ (disp ++ imm)))) {x = (ms2 ++ (pl.sib ++ pl.disp)) ++ imm} {y = ms2 ++ (pl.sib ++ (pl.disp ++ imm))} (regroup ms2 pl.sib pl.disp imm)
+      (subst (λ (l : List ℕ). Le ((ms2 ++ (pl.sib ++ pl.disp)) ++ imm) l) {x = (ms ++ (sib ++ disp)) ++ imm} {y = ms ++ (sib ++ (disp ++ imm))} (regroup ms sib disp imm)
       (Le-append (ms2 ++ (pl.sib ++ pl.disp)) (ms ++ (sib ++ disp)) imm imm mp.le (Le-same imm imm refl))) in
       let whole : Le (written (plain_by labels row insn)) (first ++ (ms ++ (sib ++ (disp ++ imm)))) =
-      subst (λ (l : List ℕ). Le l (first ++ (ms ++ (sib ++ (disp ++ imm))))) (sym (ap written plain2 ∙ written_is h2 ms2 pl.sib pl.disp imm))
+      subst (λ (l : List ℕ). Le l (first ++ (ms ++ (sib ++ (disp ++ imm))))) {x = (pre ++ (rexb ++ opb)) ++ (ms2 ++ (pl.sib ++ (pl.disp ++ imm)))} {y = written (plain_by labels row insn)} (sym (ap written plain2 ∙ written_is h2 ms2 pl.sib pl.disp imm))
       (Le-append (pre ++ (rexb ++ opb)) first (ms2 ++ (pl.sib ++ (pl.disp ++ imm))) (ms ++ (sib ++ (disp ++ imm))) le_first le_tail) in
-      subst (λ (i : Insn). Good labels row i (first ++ (ms ++ (sib ++ (disp ++ imm))))) (sym mean) (record { fits = all_fits; first = Le-before (written (plain_by labels row insn)) (first ++ (ms ++ (sib ++ (disp ++ imm)))) whole })
+      subst (λ (i : Insn). Good labels row i (first ++ (ms ++ (sib ++ (disp ++ imm))))) {x = insn} {y = meaning row h ms sib disp imm} (sym mean) (record { fits = all_fits; first = Le-before (written (plain_by labels row insn)) (first ++ (ms ++ (sib ++ (disp ++ imm)))) whole })
 
 -- the row's plain spelling is one, and no later than any that it has
 pub plain_good : (labels : Labels) (row : Row) (insn : Insn) (b : List ℕ) → Contains ROWS row → (s : Spells row b insn) → (labels.displacement ≡ true → length s.disp ≡ 4) → (labels.immediate ≡ true → length s.imm ≡ 4) → Good labels row insn b
