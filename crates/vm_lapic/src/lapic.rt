@@ -41,13 +41,19 @@ impl Model for Lapic {
 
     ghost coded = { apic_code };
 
-    ghost view = {
-        λ l. record {
-            cpu = l.cpu; irr = l.irr; isr = l.isr; tmr = l.tmr; tpr = l.tpr; svr = l.svr;
-            icr_low = l.icr_low; icr_high = l.icr_high; lvt_timer = l.lvt_timer;
-            timer_initial = l.timer_initial; timer_divide = l.timer_divide
-        }
-    };
+    ghost view = { λ l. record {
+      cpu = l.cpu;
+      irr = l.irr;
+      isr = l.isr;
+      tmr = l.tmr;
+      tpr = l.tpr;
+      svr = l.svr;
+      icr_low = l.icr_low;
+      icr_high = l.icr_high;
+      lvt_timer = l.lvt_timer;
+      timer_initial = l.timer_initial;
+      timer_divide = l.timer_divide;
+    } };
 
     ghost invariant = { λ l. NoneReserved l.irr × NoneReserved l.isr × (bit_at l.icr_low 12 ≡ 0) };
 }
@@ -146,10 +152,8 @@ impl Lapic {
     #[tactic(auto, unfolding(crate::specs::Window::read_of))]
     pub fn read(&self, offset: u32) -> u32
         ensures value { result ≡ window.read_of self.now offset }
-        ensures register {
-            (r : Register) → IsTrue (window.is_register r) → offset ≡ window.offset_of r →
-            result ≡ window.value_of self.now r
-        }
+        ensures register { (r : Register) → IsTrue (window.is_register r) → offset ≡ window.offset_of r →
+            result ≡ window.value_of self.now r }
     {
         match Register::at(offset) {
             Some(register) => self.value(register),
