@@ -43,7 +43,15 @@ impl Ioapic {
         }
     }
 
-    /// Asserts a pin once more; its message, if it sends.
+    /// How often a pin, which is below 32, is asserted.
+    pub fn count(&self, pin: u8) -> u32
+        requires { pin < 32 }
+        ensures { result ≡ (spec.pin_at self.now pin).count }
+    {
+        self.pins[pin as usize].count
+    }
+
+    /// Asserts a pin, which is below 32, once more; its message, if it sends.
     pub fn raise(&mut self, pin: u8) -> Option<Message>
         requires pin { pin < 32 }
         requires count { (spec.pin_at self.old pin).count + 1 < 2 ^ 32 }
@@ -53,7 +61,7 @@ impl Ioapic {
         self.pins[pin as usize].raise()
     }
 
-    /// Asserts a pin once less.
+    /// Asserts a pin, which is below 32 and asserted, once less.
     pub fn lower(&mut self, pin: u8)
         requires pin { pin < 32 }
         requires asserted { 0 < (spec.pin_at self.old pin).count }

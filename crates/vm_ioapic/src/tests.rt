@@ -33,6 +33,20 @@ fn with_pin_5(low: u32, high: u32) -> Ioapic {
     chip
 }
 
+/// Asserts a pin once more.
+fn raise(rt: &HostRuntime, chip: &mut Ioapic, pin: u8) -> Option<Message> {
+    assert!(rt; pin < 32);
+    assert!(rt; chip.count(pin) < u32::MAX);
+    chip.raise(pin)
+}
+
+/// Asserts a pin once less.
+fn lower(rt: &HostRuntime, chip: &mut Ioapic, pin: u8) {
+    assert!(rt; pin < 32);
+    assert!(rt; chip.count(pin) > 0);
+    chip.lower(pin);
+}
+
 fn fixed(vector: u8, dest: Dest) -> Message {
     Message {
         vector,
@@ -46,14 +60,14 @@ fn fixed(vector: u8, dest: Dest) -> Message {
 fn level_pin(rt: HostRuntime) {
     let mut chip = with_pin_5(LEVEL | 0x31, 0);
     let message = fixed(0x31, Dest::One(0));
-    assert!(rt; chip.raise(5) == Some(message));
-    assert!(rt; chip.raise(5) == None);
+    assert!(rt; raise(&rt, &mut chip, 5) == Some(message));
+    assert!(rt; raise(&rt, &mut chip, 5) == None);
     assert_eq!(rt; read(&mut chip, 0x1A), LEVEL | 0x4031);
-    chip.lower(5);
+    lower(&rt, &mut chip, 5);
     assert!(rt; chip.eoi(0x30).as_slice().is_empty());
     let again = chip.eoi(0x31);
     assert!(rt; again.as_slice().len() == 1 && again.as_slice()[0] == message);
-    chip.lower(5);
+    lower(&rt, &mut chip, 5);
     assert!(rt; chip.eoi(0x31).as_slice().is_empty());
     assert_eq!(rt; read(&mut chip, 0x1A), LEVEL | 0x31);
 }
@@ -88,10 +102,10 @@ fn registers(rt: HostRuntime) {
 #[test]
 fn masks(rt: HostRuntime) {
     let mut chip = with_pin_5(MASKED | 0x42, 0xFF00_0000);
-    assert!(rt; chip.raise(5) == None);
+    assert!(rt; raise(&rt, &mut chip, 5) == None);
     assert!(rt; write(&mut chip, 0x1A, 0x42).message == None);
-    chip.lower(5);
-    assert!(rt; chip.raise(5) == Some(fixed(0x42, Dest::All)));
+    lower(&rt, &mut chip, 5);
+    assert!(rt; raise(&rt, &mut chip, 5) == Some(fixed(0x42, Dest::All)));
     assert!(rt; write(&mut chip, 0x1A, LEVEL | MASKED | 0x42).message == None);
     let change = write(&mut chip, 0x1A, LEVEL | 0x42);
     assert!(rt; change.message == Some(fixed(0x42, Dest::All)) && !change.routing);
@@ -107,9 +121,9 @@ fn eoi_by_ascending_pin(rt: HostRuntime) {
     for pin in [31u8, 3, 7] {
         write(&mut chip, 0x11 + 2 * pin, (pin as u32) << 24);
         write(&mut chip, 0x10 + 2 * pin, LEVEL | 0x50);
-        assert!(rt; chip.raise(pin) == Some(fixed(0x50, Dest::One(pin))));
+        assert!(rt; raise(&rt, &mut chip, pin) == Some(fixed(0x50, Dest::One(pin))));
     }
-    chip.lower(7);
+    lower(&rt, &mut chip, 7);
     let messages = chip.eoi(0x50);
     let sent = messages.as_slice();
     assert_eq!(rt; sent.len(), 2);
@@ -133,7 +147,7 @@ fn destinations(rt: HostRuntime) {
             mode,
             dest,
         };
-        assert!(rt; chip.raise(5) == Some(message));
+        assert!(rt; raise(&rt, &mut chip, 5) == Some(message));
     }
 }
 
@@ -163,7 +177,7 @@ fn routing(rt: HostRuntime) {
 fn saved(rt: HostRuntime) {
     let mut chip = with_pin_5(LEVEL | ACTIVE_LOW | 0x31, 0x0300_0000);
     write(&mut chip, 0, 0x0500_0000);
-    chip.raise(5);
+    raise(&rt, &mut chip, 5);
     let state = chip.saved();
     assert_eq!(rt; state.entries[5], 0x0300_0000_0000_E031);
     assert_eq!(rt; state.entries[4], 0x0001_0000);
