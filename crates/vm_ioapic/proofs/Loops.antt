@@ -1,5 +1,5 @@
 -- Loops over the pins.
-use Rattle.std.proofs.Common.{◌≡◌, ℕ, zero, suc, ◌+◌, ◌<◌, ◌≤◌, List, [], ◌∷◌, ◌++◌, length, get_or, set, map, take, drop, refl, sym, ap, subst, arith, add-one, append_assoc, drop-cons, Option, Some, None, ◌∙◌, filter, filter_map, Bool, true, false, cond, append-nil, length-append}
+use Rattle.std.proofs.Common.{◌≡◌, ℕ, zero, suc, ◌+◌, ◌<◌, ◌≤◌, List, [], ◌∷◌, ◌++◌, length, get_or, set, map, take, drop, refl, sym, ap, arith, add-one, append_assoc, drop-cons, Option, Some, None, ◌∙◌, filter, filter_map, Bool, true, false, cond, append-nil, length-append}
 use Rattle.std.specs.Prelude.{if◌then◌else◌}
 use Rattle.std.specs.List.{cons_option}
 use Rattle.std.specs.Ordering.{nat_cmp}
@@ -11,7 +11,6 @@ use Rattle.vm_vectors.specs.Vectors.{Vectors}
 use Rattle.vm_ioapic.specs.declared.pin.Pin.{Pin}
 use Rattle.vm_ioapic.specs.Pin.{pin_at_start}
 use Rattle.vm_ioapic.specs.Ioapic.{is_level_for, vectors_of}
-use Rattle.std.proofs.lemmas.Grind.{common_steps}
 use Rattle.std.proofs.lemmas.List.{take_more_set, drop-set-lt, map-append, ext_get_or, get_or-map, length-map}
 
 module _ {X : Type 0} where

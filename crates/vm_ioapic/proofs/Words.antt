@@ -1,15 +1,12 @@
 -- Entries as words, and back.
-use Rattle.std.specs.Prelude.{if◌then◌else◌, IsTrue, slice_index}
-use Rattle.std.proofs.Common.{◌≡◌, ℕ, zero, suc, ◌+◌, ◌*◌, ◌/◌, ◌%◌, ◌^◌, ◌<◌, ◌≤◌, Bool, true, false, eqb, List, length, get_or, map, refl, sym, ap, subst, arith, inl, inr, ◌∙◌}
-use Rattle.std.proofs.lemmas.Bool.{cases_lt}
+use Rattle.std.proofs.Common.{◌≡◌, ℕ, zero, suc, ◌+◌, ◌*◌, ◌/◌, ◌%◌, ◌^◌, ◌<◌, Bool, true, false, eqb, refl, sym, ap, subst, arith, ◌∙◌}
 use Rattle.std.proofs.lemmas.Nat.{mod-pow-add}
 use Rattle.std.proofs.lemmas.Nat.Bits.{bit_at-lt}
 use Rattle.std.specs.Int.{bit_at}
 use Rattle.vm_ioapic.specs.declared.entry.DeliveryMode.{DeliveryMode}
 use Rattle.vm_ioapic.specs.declared.entry.DeliveryMode.TheVariants.{Fixed, LowestPriority, Smi, Reserved3, Nmi, Init, Reserved6, ExtInt}
-use Rattle.vm_ioapic.specs.declared.entry.Redirection.{Redirection}
 use Rattle.vm_ioapic.specs.declared.pin.Pin.{Pin}
-use Rattle.vm_ioapic.specs.Entry.{bit, weight, mode_of, mode_number, low_half, high_half, with_low, with_high}
+use Rattle.vm_ioapic.specs.Entry.{bit, weight, mode_of, mode_number, low_half, with_low, with_high}
 use Rattle.vm_ioapic.specs.Pin.{IsPin}
 use Rattle.vm_ioapic.specs.Saved.{word_of, pin_of, IsEntry}
 

@@ -1,5 +1,5 @@
 -- A redirection table entry. Source: Intel's 82093AA data sheet, section 3.2.4.
-use Rattle.std.specs.Prelude.{ℕ, ◌+◌, ◌*◌, ◌/◌, ◌%◌, ◌^◌, ◌<◌, Bool, true, false, not, ◌&&◌, ◌==◌, nat_lt, if◌then◌else◌}
+use Rattle.std.specs.Prelude.{ℕ, ◌+◌, ◌*◌, ◌/◌, ◌%◌, ◌^◌, Bool, true, false, not, ◌&&◌, ◌==◌, nat_lt, if◌then◌else◌}
 use Rattle.std.specs.Int.{bit_at}
 use Rattle.vm_law.specs.declared.message.Dest.{Dest}
 use Rattle.vm_law.specs.declared.message.Dest.TheVariants.{One, All, AllBut, Nobody}

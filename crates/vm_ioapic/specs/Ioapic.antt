@@ -1,5 +1,5 @@
 -- The I/O APIC: the selected index, the ID and the pins. Source: Intel's 82093AA data sheet and bhyve's vioapic.c.
-use Rattle.std.specs.Prelude.{◌≡◌, ℕ, ◌*◌, ◌/◌, ◌%◌, ◌^◌, ◌<◌, Bool, true, false, ◌&&◌, List, map, filter, filter_map, length, replicate, slice_index_or, slice_set, Option, Some, None}
+use Rattle.std.specs.Prelude.{◌≡◌, ℕ, ◌*◌, ◌/◌, ◌%◌, ◌^◌, ◌<◌, Bool, false, ◌&&◌, List, map, filter, filter_map, length, replicate, slice_index_or, slice_set, Option, None}
 use Rattle.std.specs.FinSet as set
 use Rattle.vm_law.specs.declared.message.Message.{Message}
 use Rattle.vm_vectors.specs.Vectors.{Vectors}

@@ -1,5 +1,5 @@
 -- What stands at an offset of the window. Source: Intel's 82093AA data sheet, section 3.1 and 3.2.
-use Rattle.std.specs.Prelude.{ℕ, ◌-◌, ◌/◌, ◌%◌, ◌<◌, Bool, ◌&&◌, ◌==◌, nat_lt, nat_le, if◌then◌else◌}
+use Rattle.std.specs.Prelude.{ℕ, ◌-◌, ◌/◌, ◌%◌, ◌<◌, ◌&&◌, ◌==◌, nat_lt, nat_le, if◌then◌else◌}
 use Rattle.vm_ioapic.specs.declared.register.Register.{Register}
 use Rattle.vm_ioapic.specs.declared.register.Register.TheVariants.{Select, Id, Version, Low, High, Nothing}
 

@@ -1,5 +1,5 @@
 -- The I/O APIC's state as it is stored.
-use Rattle.std.specs.Prelude.{◌≡◌, ℕ, ◌+◌, ◌*◌, ◌/◌, ◌%◌, ◌^◌, ◌<◌, Bool, true, false, not, ◌&&◌, ◌==◌, if◌then◌else◌, IsTrue, List, map, slice_index}
+use Rattle.std.specs.Prelude.{◌≡◌, ℕ, ◌+◌, ◌*◌, ◌/◌, ◌%◌, ◌^◌, ◌<◌, false, IsTrue, List, map, slice_index}
 use Rattle.std.specs.List.{range_with_len}
 use Rattle.vm_law.specs.declared.chips.IoapicState.{IoapicState}
 use Rattle.vm_ioapic.specs.Entry.{bit, high_half, low_half, masked_entry, with_high, with_low}

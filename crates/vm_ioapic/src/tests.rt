@@ -1,4 +1,5 @@
 use crate::{Ioapic, RteChange};
+use std::process::Abort;
 use vm_law::{Dest, Message, Mode};
 
 const SELECT: u32 = 0x00;
@@ -34,14 +35,14 @@ fn with_pin_5(low: u32, high: u32) -> Ioapic {
 }
 
 /// Asserts a pin once more.
-fn raise(rt: &HostRuntime, chip: &mut Ioapic, pin: u8) -> Option<Message> {
+fn raise(rt: &impl Abort, chip: &mut Ioapic, pin: u8) -> Option<Message> {
     assert!(rt; pin < 32);
     assert!(rt; chip.count(pin) < u32::MAX);
     chip.raise(pin)
 }
 
 /// Asserts a pin once less.
-fn lower(rt: &HostRuntime, chip: &mut Ioapic, pin: u8) {
+fn lower(rt: &impl Abort, chip: &mut Ioapic, pin: u8) {
     assert!(rt; pin < 32);
     assert!(rt; chip.count(pin) > 0);
     chip.lower(pin);

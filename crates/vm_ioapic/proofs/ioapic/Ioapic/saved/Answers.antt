@@ -1,4 +1,4 @@
-use Rattle.std.proofs.Common.{◌≡◌, ◌*◌, ◌%◌, ◌∙◌, arith}
+use Rattle.std.proofs.Common.{◌∙◌, arith}
 use Rattle.vm_ioapic.proofs.Stored.{state_ok, chip_back}
 use Rattle.vm_ioapic.proofs.ioapic.Ioapic.saved.Goals as goal
 

@@ -1,4 +1,4 @@
-use Rattle.std.proofs.Common.{◌≡◌, ◌<◌, ◌≤◌, ◌∙◌, sym, ap, List, length, arith, true, false}
+use Rattle.std.proofs.Common.{◌<◌, ◌≤◌, ◌∙◌, sym, ap, List, length, arith}
 use Rattle.vm_ioapic.specs.declared.pin.Pin.{Pin}
 use Rattle.vm_ioapic.specs.Ioapic as spec
 use Rattle.vm_ioapic.proofs.Loops.{take_all, vectors_then, vectors_else}
