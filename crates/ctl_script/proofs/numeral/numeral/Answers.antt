@@ -1,0 +1,12 @@
+use Rattle.std.proofs.Common.{◌≡◌, ◌<◌, ◌≤◌, ◌∙◌, rules, length, true}
+use Rattle.std.specs.List.{list_all}
+use Rattle.ctl_script.specs.Numeral.{is_digit}
+use Rattle.ctl_script.proofs.Numerals.{numeral_is}
+use Rattle.ctl_script.proofs.numeral.numeral.Goals as goal
+
+pub returns : goal.returns
+returns c =
+    let all : list_all (is_digit c.args.base) c.args.text.now ≡ true = search rules in
+    let some : 0 < length c.args.text.now = search rules in
+    let short : length c.args.text.now ≤ c.args.most = search rules in
+    c.ok.ensures.value ∙ numeral_is c.args.base c.args.most c.args.text.now c.from_str_radix.result c.requires.low c.requires.high c.requires.fits c.from_str_radix.ensures.value some short all

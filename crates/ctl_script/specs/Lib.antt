@@ -1,0 +1,6 @@
+pub mod Answers
+pub mod Line
+pub mod Numeral
+pub mod Order
+pub mod Print
+pub mod Script
