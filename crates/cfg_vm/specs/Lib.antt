@@ -1,0 +1,4 @@
+pub mod Outcome
+pub mod Number
+pub mod Slot
+pub mod Table
