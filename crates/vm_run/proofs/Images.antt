@@ -5,7 +5,7 @@ use Rattle.byteorder.specs.Endian.{little_number, little_bytes}
 use Rattle.byteorder.specs.Numbers.{little_number-reads_back}
 use Rattle.vm_law.specs.declared.image.FlatImage.{FlatImage}
 use Rattle.vm_law.specs.Image.{IsImage, IsAllowed, code_part, magic, image_bytes}
-use Rattle.vm_run.specs.Running.{memory_size}
+use Rattle.vm_run.specs.Starting.{memory_size}
 use Rattle.vm_law.proofs.Numbers.{IsBytes, bytes_of_number}
 
 abbrev pub entry_in : List ℕ → ℕ
@@ -115,3 +115,14 @@ one_image memory bytes f g p q =
     let first = image_back bytes f p.spelled (omega (arith, a.small_code, a.entry)) (omega (arith, a.small_code)) in
     let second = image_back bytes g q.spelled (omega (arith, b.small_code, b.entry)) (omega (arith, b.small_code)) in
     same_image f g (sym first.entry ∙ second.entry) (sym first.code ∙ second.code) (sym first.payload ∙ second.payload)
+
+-- the parts that were read are those of the image
+pub parts_image : (bytes : List ℕ) (entry code : ℕ) (payload : List ℕ) → Parts bytes entry code payload
+    → IsBytes bytes → 24 ≤ length bytes → take 8 bytes ≡ magic → Allows entry code (length payload)
+    → IsImage memory_size bytes (made entry code payload)
+parts_image bytes entry code payload parts fits le first allows =
+    let found = image_found bytes entry code payload parts fits le first allows in
+    let back = image_back bytes found.0 found.1.spelled (omega (arith, found.1.allowed.small_code, found.1.allowed.entry)) (omega (arith, found.1.allowed.small_code)) in
+    let same : found.0 ≡ made entry code payload =
+    same_image found.0 (made entry code payload) (sym found.2) (sym back.code ∙ sym parts.is_code) (sym back.payload ∙ sym parts.is_payload) in
+    subst (λ (f : FlatImage). IsImage memory_size bytes f) same found.1

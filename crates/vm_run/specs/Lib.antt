@@ -1,7 +1,10 @@
+pub mod Actors
 pub mod Answer
-pub mod Built
-pub mod Effect
-pub mod Statuses
-pub mod Running
-pub mod State
+pub mod Closing
+pub mod Ends
+pub mod Files
+pub mod Played
+pub mod Reading
+pub mod Single
+pub mod Starting
 pub mod Words

@@ -1,7 +1,7 @@
 //! The words of the command line.
-ghost use Rattle.std.specs.Prelude.{◌≡◌, ◌↔◌, List, ℕ, map, IsTrue, IfOk, IsErrOf};
-ghost use Rattle.vm_run.specs.Words.{AreSolo, IsName, file_name};
-ghost use Rattle.vm_run.specs.declared.command.WordsFault.TheVariants.{Usage};
+ghost use Rattle.std.specs.Prelude.{◌≡◌, ◌↔◌, List, ℕ, length, map, IsTrue};
+ghost use Rattle.vm_run.specs.Words.{IsName, image_name};
+ghost use Rattle.vm_run.specs.Reading.{ReadsWords};
 
 use std::alloc::Global;
 use thiserror::Error;
@@ -10,17 +10,20 @@ use vm_law::{OutOfMemory, Text};
 /// A command of vmrun.
 #[derive(Debug, Drop)]
 pub enum Command {
-    /// Runs the guest of this image file on one thread.
-    Solo(Text),
+    /// Runs the guest of an image file on one thread, and writes the run's journal to a file if one is named.
+    Solo { file: Text, journal: Option<Text> },
+    /// Replays the journal of a run of an image file.
+    Replay { file: Text, journal: Text },
 }
 
 impl Command {
-    /// The name of the file that it is about.
+    /// The name of the image file that it is about.
     pub fn file(&self) -> &str
-        ensures { result.now ≡ file_name self.now }
+        ensures { result.now ≡ image_name self.now }
     {
         match self {
-            Command::Solo(name) => name.as_str(),
+            Command::Solo { file, .. } => file.as_str(),
+            Command::Replay { file, .. } => file.as_str(),
         }
     }
 }
@@ -28,7 +31,7 @@ impl Command {
 /// Why words give no command.
 #[derive(Clone, Copy, Debug, PartialEq, Eq, Error)]
 pub enum WordsFault {
-    #[error("usage: vmrun solo FILE")]
+    #[error("usage: vmrun solo FILE [--journal JOURNAL] or vmrun replay FILE JOURNAL")]
     Usage,
     #[error("out of memory")]
     Memory,
@@ -44,17 +47,61 @@ impl From<OutOfMemory> for WordsFault {
     }
 }
 
-/// The command of these words. `Usage` comes exactly where they aren't `solo` and a file's name, which
-/// isn't empty and doesn't begin with `-`.
+/// The command of these words. `Usage` comes exactly where they are those of no command.
 pub fn command_of(alloc: Global, words: &[&str]) -> Result<Command, WordsFault>
-    ensures found { IfOk result (λ c. AreSolo (map (λ w. w.now) words.entry.now) (file_name c)) }
-    ensures usage { IsErrOf result Usage → (name : List ℕ) → AreSolo (map (λ w. w.now) words.entry.now) name → ⊥ }
-    ensures memory { IsErrOf result WordsFault.Memory → (name : List ℕ) × AreSolo (map (λ w. w.now) words.entry.now) name }
+    ensures { ReadsWords (map (λ w. w.now) words.entry.now) result }
 {
-    if words.len() != 2 || words[0] != "solo" || !is_file_name(words[1]) {
+    match words.len() {
+        2 => solo_of(alloc, words),
+        3 => replay_of(alloc, words),
+        4 => kept_solo_of(alloc, words),
+        _ => Err(WordsFault::Usage),
+    }
+}
+
+fn solo_of(alloc: Global, words: &[&str]) -> Result<Command, WordsFault>
+    requires { length words.now ≡ 2 }
+    ensures { ReadsWords (map (λ w. w.now) words.entry.now) result }
+{
+    if words[0] != "solo" || !is_file_name(words[1]) {
         return Err(WordsFault::Usage);
     }
-    Ok(Command::Solo(Text::from_text(alloc, words[1])?))
+    let file = Text::from_text(alloc, words[1])?;
+    Ok(Command::Solo {
+        file,
+        journal: None,
+    })
+}
+
+fn replay_of(alloc: Global, words: &[&str]) -> Result<Command, WordsFault>
+    requires { length words.now ≡ 3 }
+    ensures { ReadsWords (map (λ w. w.now) words.entry.now) result }
+{
+    if words[0] != "replay" || !is_file_name(words[1]) || !is_file_name(words[2]) {
+        return Err(WordsFault::Usage);
+    }
+    let file = Text::from_text(alloc, words[1])?;
+    let journal = Text::from_text(alloc, words[2])?;
+    Ok(Command::Replay { file, journal })
+}
+
+fn kept_solo_of(alloc: Global, words: &[&str]) -> Result<Command, WordsFault>
+    requires { length words.now ≡ 4 }
+    ensures { ReadsWords (map (λ w. w.now) words.entry.now) result }
+{
+    if words[0] != "solo"
+        || !is_file_name(words[1])
+        || words[2] != "--journal"
+        || !is_file_name(words[3])
+    {
+        return Err(WordsFault::Usage);
+    }
+    let file = Text::from_text(alloc, words[1])?;
+    let journal = Text::from_text(alloc, words[3])?;
+    Ok(Command::Solo {
+        file,
+        journal: Some(journal),
+    })
 }
 
 /// Whether a word may be a file's name.

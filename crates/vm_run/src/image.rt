@@ -2,13 +2,13 @@
 ghost use Rattle.std.specs.Prelude.{◌≡◌, ◌+◌, ◌<◌, ◌≤◌, ◌↔◌, length, take, drop, IsTrue, IfSome, IsSome};
 ghost use Rattle.byteorder.specs.Endian.{little_number};
 ghost use Rattle.vm_law.specs.declared.image.FlatImage.{FlatImage};
-ghost use Rattle.vm_law.specs.Image.{IsImage, code_part, magic};
-ghost use Rattle.vm_run.specs.Running.{memory_size};
+ghost use Rattle.vm_law.specs.Image.{IsImage, magic};
+ghost use Rattle.vm_run.specs.Starting.{memory_size};
 
 use byteorder::{ByteOrder, LittleEndian};
 
 /// How many bytes of memory a guest has: 256 MiB.
-const MEMORY_SIZE: usize = 268_435_456;
+pub const MEMORY_SIZE: usize = 268_435_456;
 
 /// How many bytes of code an image may have: 16 MiB.
 const CODE_LIMIT: u64 = 16_777_216;
@@ -21,32 +21,37 @@ pub const IMAGE_LIMIT: u64 = 268_435_480;
 
 const MAGIC: [u8; 8] = *b"VMFLAT1\n";
 
-/// What is run of an image.
+/// The parts of an image.
 #[derive(Clone, Copy)]
-pub struct Program<'a> {
+pub struct Parts<'a> {
     /// The address of the first instruction.
     pub entry: u64,
-    /// The code part, which stands at address 0.
-    pub code: &'a [u8],
+    /// How many bytes of the payload are code.
+    pub code: u64,
+    /// What stands from address 0 on.
+    pub payload: &'a [u8],
 }
 
-/// The program in the bytes of an image, and nothing where they are no image that the memory allows.
-pub fn program_of(bytes: &[u8]) -> Option<Program<'_>>
-    ensures found { IfSome result (λ p. (f : FlatImage) × IsImage memory_size bytes.now f
-        × (p.entry ≡ f.entry) × (p.code.now ≡ code_part f)) }
+/// The parts of the image in these bytes, and nothing where they are no image that the memory allows.
+pub fn parts_of(bytes: &[u8]) -> Option<Parts<'_>>
+    ensures found { IfSome result (λ p. IsImage memory_size bytes.now
+        (record { entry = p.entry; code = p.code; payload = p.payload.now })) }
     ensures only { (f : FlatImage) → IsImage memory_size bytes.now f → IsSome result }
 {
     if bytes.len() < HEADER_SIZE || !begins_with_magic(bytes) {
         return None;
     }
     let entry = number_at(bytes, 8);
-    let length = number_at(bytes, 16);
+    let code = number_at(bytes, 16);
     let payload = payload_of(bytes);
-    if !are_allowed(entry, length, payload.len()) {
+    if !are_allowed(entry, code, payload.len()) {
         return None;
     }
-    let code = &payload[..length as usize];
-    Some(Program { entry, code })
+    Some(Parts {
+        entry,
+        code,
+        payload,
+    })
 }
 
 /// Whether the first eight bytes are those of an image.

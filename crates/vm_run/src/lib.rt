@@ -1,28 +1,29 @@
-//! The top call of vmrun: one flat image from its bytes to its console.
+//! The top call of vmrun: runs and replays of flat images, from the words of the command line to the console.
 //!
 //! `vmrun solo FILE` reads a file as a flat image, runs its guest on one vCPU with 256 MiB of memory
-//! for at most 10,000,000 instructions, and writes what the guest sent to the serial port 0x3F8.
-//! The instructions that are built are those that the opcodes B0+r, B8+r, EB, EE and F4 spell.
+//! for at most 10,000,000 instructions, and writes what the guest sends to the serial port 0x3F8. With `--journal JOURNAL` it
+//! writes the run's history to a file. `vmrun replay FILE JOURNAL` makes the steps of such a history again.
 //!
-//! What it promises stands at [`vmrun`] and [`still_cmd`], in the words of `specs/`: `Running` says how a
-//! guest runs and ends, and `Answer` what each status says of the file, the console and the counts of refusals.
-//! The meaning of instructions follows the Intel SDM, volume 2.
+//! What it promises stands at [`vmrun`] and [`still_cmd`], in the words of `specs/`: `Answer` says what each status
+//! says of the files, the console and the run that is kept, and `Ends` which counts of refusals stand behind it. What a
+//! history is, and what a run's rounds are, `vm_machine` says.
 #![tactic(auto)]
 
+mod actors;
 mod command;
 mod console;
+mod ending;
 mod image;
-mod law;
-mod loading;
-mod machine;
+mod journaling;
 mod outcome;
-mod running;
+mod replaying;
+mod rounds;
 mod solo;
+mod starting;
 #[cfg(test)]
 mod tests;
 mod top;
 
 pub use command::Command;
-pub use law::one_outcome;
-pub use outcome::Outcome;
+pub use outcome::{Kept, Outcome};
 pub use top::{still_cmd, vmrun};

@@ -1,126 +1,185 @@
 //! Runs the guest of an image file.
-ghost use Rattle.std.specs.Prelude.{◌≡◌};
+ghost use Rattle.std.specs.Prelude.{◌≡◌, ◌≢◌, ◌∷◌, [], ◌↔◌, IsTrue, OnOk, IfSome, IfNone, IsErrOf};
+ghost use Rattle.std.specs.Option.{option_copied};
+ghost use Rattle.vm_law.specs.declared.script.Order.TheVariants.{WaitQuiet};
+ghost use Rattle.vm_host.specs.declared.host.HostFault.TheVariants.{Missing};
 ghost use Rattle.vm_host.specs.Told.{WhereTold};
-ghost use Rattle.vm_run.specs.Answer.{HasCauses, Answers};
-ghost use Rattle.vm_run.specs.Statuses.{fault_status, status_of};
+ghost use Rattle.vm_host.specs.Counts.{HasCause};
+ghost use Rattle.vm_machine.specs.History.{IsLegal, last_state};
+ghost use Rattle.vm_machine.specs.Starting.{IsSound};
+ghost use Rattle.vm_run.specs.declared.command.Command.TheVariants.{Solo};
+ghost use Rattle.vm_run.specs.Answer.{outside, SoloAnswers, RunAnswers, IsSaved, ChangesOnly};
+ghost use Rattle.vm_run.specs.Closing.{SaysWhy, Closes};
+ghost use Rattle.vm_run.specs.Ends.{HasCauses, HasJournalCauses};
+ghost use Rattle.vm_run.specs.Files.{IsFileOf};
+ghost use Rattle.vm_run.specs.Starting.{IsStart};
+ghost use Rattle.vm_run.specs.Words.{IsTwice};
 
-use crate::console::write_all;
-use crate::image::{IMAGE_LIMIT, program_of};
-use crate::loading::{LoadFault, load};
-use crate::machine::Guest;
-use crate::outcome::Outcome;
-use crate::running::{Ended, run};
+use crate::ending::Fault;
+use crate::journaling::save_journal;
+use crate::outcome::{Kept, Outcome};
+use crate::rounds::{PlayFault, Played, play};
+use crate::starting::start_from;
 use std::alloc::Global;
-use thiserror::Error;
-use vm_host::{Host, HostFault, Sink, SinkFault};
-use vm_law::OutOfMemory;
+use vm_host::{Host, HostFault, Sink};
+use vm_law::{Journal, Text};
+use vm_machine::{Start, Why};
 
-/// How many instructions a guest may execute.
-const INSTRUCTION_LIMIT: u64 = 10_000_000;
-
-/// Why the guest of a file didn't run to its end, or its console didn't take all.
-#[derive(Clone, Copy, Debug, PartialEq, Eq, Error)]
-pub enum SoloFault {
-    /// The file isn't a flat image that the memory allows.
-    #[error("not a flat image")]
-    Image,
-    /// The host failed.
-    #[error("the host failed")]
-    Failed,
-    /// No file has the name.
-    #[error("no such file")]
-    Missing,
-    /// The console failed.
-    #[error("the console failed")]
-    Console,
-    /// Memory was refused.
-    #[error("out of memory")]
-    Memory,
-}
-
-impl SoloFault {
-    /// The status that says so.
-    pub fn status(self) -> u8
-        ensures { result ≡ fault_status self }
-    {
-        match self {
-            SoloFault::Image => 3,
-            SoloFault::Failed => 6,
-            SoloFault::Missing => 7,
-            SoloFault::Console => 9,
-            SoloFault::Memory => 71,
-        }
-    }
-}
-
-impl From<LoadFault> for SoloFault {
-    ghost use Rattle.vm_run.specs.Statuses.{after_load};
-
-    ghost from_gives = { λ f e. e ≡ after_load f };
-
-    fn from(fault: LoadFault) -> SoloFault {
-        match fault {
-            LoadFault::Host(HostFault::Missing) => SoloFault::Missing,
-            LoadFault::Host(HostFault::Failed) => SoloFault::Failed,
-            LoadFault::Host(HostFault::Memory) => SoloFault::Memory,
-            LoadFault::Long => SoloFault::Image,
-        }
-    }
-}
-
-impl From<OutOfMemory> for SoloFault {
-    ghost use Rattle.vm_run.specs.declared.solo.SoloFault.TheVariants.{Memory};
-
-    ghost from_gives = { λ _ e. e ≡ Memory };
-
-    fn from(_error: OutOfMemory) -> SoloFault {
-        SoloFault::Memory
-    }
-}
-
-impl From<SinkFault> for SoloFault {
-    ghost use Rattle.vm_run.specs.declared.solo.SoloFault.TheVariants.{Console};
-
-    ghost from_gives = { λ _ e. e ≡ Console };
-
-    fn from(_fault: SinkFault) -> SoloFault {
-        SoloFault::Console
-    }
-}
-
-/// What a run of a file's guest came to.
-pub fn outcome_of(end: Result<Ended, SoloFault>) -> Outcome
-    ensures { result.status ≡ status_of end }
-{
-    let status = match end {
-        Ok(ended) => ended.status(),
-        Err(fault) => fault.status(),
-    };
-    Outcome { status }
-}
-
-/// Runs the guest of a file to its end, and then writes what it wrote to the console.
-pub fn run_file<H: Host, S: Sink>(
+/// Runs the guest of an image file to its end, and writes the run's journal to a file if one is named.
+pub(crate) fn solo<H: Host, S: Sink>(
     alloc: Global,
-    name: &str,
+    file: &str,
+    journal: Option<&Text>,
     host: &mut H,
     console: &mut S,
-) -> Result<Ended, SoloFault>
-    ensures causes { HasCauses (status_of result) (H.faults host.old) (H.faults host.new)
+) -> Outcome
+    ensures answers { SoloAnswers (outside (H.tells host.old) (H.file host.old) (H.file host.new)
+        (S.tells console.old) (S.taken console.old) (S.taken console.new))
+        file.now (option_copied journal.entry) result.status result.kept }
+    ensures start { IfSome result.kept (λ k. IsFileOf (H.tells host.old) (H.file host.old file.now) IsStart k.start) }
+    ensures legal { IfSome result.kept (λ k. IsLegal k.start k.journal) }
+    ensures last { IfSome result.kept (λ k. k.run.state ≡ last_state k.start k.journal) }
+    ensures untouched { IfNone result.kept (console.new ≡ console.old) }
+    ensures causes { HasCauses result.status (H.faults host.old) (H.faults host.new)
         (H.misses host.old) (H.misses host.new) (S.faults console.old) (S.faults console.new) }
-    ensures answers { Answers (H.tells host.old) (H.file host.old name.now)
-        (S.tells console.old) (S.taken console.old) (S.taken console.new) (status_of result) }
+    ensures twice { IsTwice (Solo file.now (option_copied journal.entry)) → (result.status ≡ 3) × (host.new ≡ host.old) × (console.new ≡ console.old) }
+    ensures changes { ChangesOnly (H.tells host.old) (H.file host.old) (H.file host.new) (option_copied journal.entry) }
     ensures image_faults { H.image_faults host.new ≡ H.image_faults host.old }
     ensures host_told { H.tells host.new ≡ H.tells host.old }
-    ensures files { WhereTold (H.tells host.old) (H.file host.new ≡ H.file host.old) }
     ensures console_told { S.tells console.new ≡ S.tells console.old }
 {
-    let bytes = load(alloc, host, name, IMAGE_LIMIT)?;
-    let Some(program) = program_of(&bytes) else {
-        return Err(SoloFault::Image);
-    };
-    let mut guest = Guest::new(alloc, program.entry);
-    let end = run(&mut guest, program.code, INSTRUCTION_LIMIT)?;
-    write_all(console, guest.console())?;
-    Ok(end)
+    if is_named_twice(file, journal) {
+        return Outcome {
+            status: Fault::Refused.status(),
+            kept: None,
+        };
+    }
+    match start_from(alloc, host, file) {
+        Ok(start) => run_start(alloc, start, journal, host, console),
+        Err(fault) => Outcome {
+            status: fault.status(),
+            kept: None,
+        },
+    }
+}
+
+/// Whether the journal is to be written to the file itself.
+fn is_named_twice(file: &str, journal: Option<&Text>) -> bool
+    ensures { IsTrue result ↔ IsTwice (Solo file.now (option_copied journal.entry)) }
+{
+    match journal {
+        Some(journal) => file == journal.as_str(),
+        None => false,
+    }
+}
+
+/// Runs the guest of a start to its end, and writes the run's journal to a file if one is named.
+fn run_start<H: Host, S: Sink>(
+    alloc: Global,
+    start: Start,
+    journal: Option<&Text>,
+    host: &mut H,
+    console: &mut S,
+) -> Outcome
+    requires sound { IsSound start }
+    requires one { start.plan.cpus ≡ 1 }
+    requires script { start.script ≡ WaitQuiet ∷ [] }
+    ensures answers { RunAnswers (outside (H.tells host.old) (H.file host.old) (H.file host.new)
+        (S.tells console.old) (S.taken console.old) (S.taken console.new))
+        (option_copied journal.entry) result.status result.kept }
+    ensures start { IfSome result.kept (λ k. k.start ≡ start) }
+    ensures legal { IfSome result.kept (λ k. IsLegal k.start k.journal) }
+    ensures last { IfSome result.kept (λ k. k.run.state ≡ last_state k.start k.journal) }
+    ensures untouched { IfNone result.kept (console.new ≡ console.old) }
+    ensures causes { HasCauses result.status (H.faults host.old) (H.faults host.new)
+        (H.misses host.old) (H.misses host.new) (S.faults console.old) (S.faults console.new) }
+    ensures changes { ChangesOnly (H.tells host.old) (H.file host.old) (H.file host.new) (option_copied journal.entry) }
+    ensures image_faults { H.image_faults host.new ≡ H.image_faults host.old }
+    ensures host_told { H.tells host.new ≡ H.tells host.old }
+    ensures console_told { S.tells console.new ≡ S.tells console.old }
+{
+    match play(alloc, &start, console) {
+        Ok(played) => {
+            let Played {
+                journal: history,
+                run,
+                end,
+            } = played;
+            let status = close(alloc, host, journal, &history, end, run.ended());
+            Outcome {
+                status,
+                kept: Some(Kept {
+                    start,
+                    journal: history,
+                    run,
+                }),
+            }
+        }
+        Err(_) => Outcome {
+            status: Fault::Memory.status(),
+            kept: None,
+        },
+    }
+}
+
+/// Writes the journal of a run that is closed to its file if one is named, and answers the run's status. The first
+/// failure decides it.
+fn close<H: Host>(
+    alloc: Global,
+    host: &mut H,
+    name: Option<&Text>,
+    history: &Journal,
+    end: Result<(), PlayFault>,
+    why: Option<Why>,
+) -> u8
+    ensures closes { Closes (H.tells host.old) (H.file host.new) (option_copied name.entry) history.now why end result }
+    ensures changes { ChangesOnly (H.tells host.old) (H.file host.old) (H.file host.new) (option_copied name.entry) }
+    ensures causes { HasJournalCauses result (H.faults host.old) (H.faults host.new) (H.misses host.old) (H.misses host.new) }
+    ensures image_faults { H.image_faults host.new ≡ H.image_faults host.old }
+    ensures told { H.tells host.new ≡ H.tells host.old }
+{
+    match end {
+        Ok(()) => match keep_journal(alloc, host, name, history) {
+            Ok(()) => status_of(why),
+            Err(fault) => Fault::from(fault).status(),
+        },
+        Err(PlayFault::Console) => {
+            let _kept = keep_journal(alloc, host, name, history);
+            Fault::Console.status()
+        }
+        Err(PlayFault::Memory) => Fault::Memory.status(),
+    }
+}
+
+/// Writes a journal to its file if one is named.
+fn keep_journal<H: Host>(
+    alloc: Global,
+    host: &mut H,
+    name: Option<&Text>,
+    history: &Journal,
+) -> Result<(), HostFault>
+    ensures saved { OnOk result (IsSaved (H.tells host.old) (H.file host.new) (option_copied name.entry) history.now) }
+    ensures changes { ChangesOnly (H.tells host.old) (H.file host.old) (H.file host.new) (option_copied name.entry) }
+    ensures cause { HasCause (H.faults host.old) (H.faults host.new) (H.misses host.old) (H.misses host.new) result }
+    ensures not_missing { IsErrOf result Missing → ⊥ }
+    ensures image_faults { H.image_faults host.new ≡ H.image_faults host.old }
+    ensures told { H.tells host.new ≡ H.tells host.old }
+{
+    match name {
+        Some(name) => save_journal(alloc, host, name.as_str(), history),
+        None => Ok(()),
+    }
+}
+
+/// The status of a run that ended so, where nothing outside failed.
+fn status_of(why: Option<Why>) -> u8
+    ensures why { SaysWhy why result }
+    ensures no_host_fault { (result ≢ 6) × (result ≢ 7) }
+{
+    match why {
+        Some(Why::Finished) => 0,
+        Some(Why::Stopped { .. }) => 4,
+        Some(Why::Budget) => 5,
+        Some(Why::Outside) | None => Fault::Console.status(),
+    }
 }

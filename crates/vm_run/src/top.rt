@@ -1,15 +1,18 @@
 //! The top calls.
-ghost use Rattle.std.specs.Prelude.{◌≡◌, ◌↔◌, ℕ, List, ◌∷◌, Some, map, Contains};
-ghost use Rattle.vm_law.specs.declared.image.FlatImage.{FlatImage};
-ghost use Rattle.vm_law.specs.Image.{IsImage};
+ghost use Rattle.std.specs.Prelude.{◌≡◌, ◌↔◌, ℕ, List, [], ◌∷◌, map, Contains, IfSome, IfNone, IsNone};
 ghost use Rattle.vm_host.specs.Told.{WhereTold};
-ghost use Rattle.vm_run.specs.Answer.{statuses, ended_statuses, refused_statuses, HasCauses, NoneRose, IsNoImage, Answers};
-ghost use Rattle.vm_run.specs.Running.{memory_size};
-ghost use Rattle.vm_run.specs.Words.{AreSolo, file_name};
+ghost use Rattle.vm_machine.specs.History.{IsLegal, last_state};
+ghost use Rattle.vm_run.specs.declared.command.Command.{Command as CommandValue};
+ghost use Rattle.vm_run.specs.Answer.{outside, Answers, Changes, CanDo, MustRefuse, statuses, done_statuses, refused_statuses};
+ghost use Rattle.vm_run.specs.Ends.{HasCauses, NoneRose};
+ghost use Rattle.vm_run.specs.Files.{IsFileOf};
+ghost use Rattle.vm_run.specs.Starting.{IsStart};
+ghost use Rattle.vm_run.specs.Words.{Says, IsTwice, image_name};
 
 use crate::command::{Command, WordsFault, command_of};
 use crate::outcome::Outcome;
-use crate::solo::{outcome_of, run_file};
+use crate::replaying::replay_file;
+use crate::solo::solo;
 use std::alloc::Global;
 use std::sync::Wait;
 use std::thread::Threads;
@@ -17,8 +20,10 @@ use vm_host::{Gate, Host, Sink};
 
 /// Does what a command says, on the calling thread, and always returns.
 ///
-/// `solo FILE` reads the file whole, runs its guest, and then writes what the guest wrote to the console. The
-/// first refusal of host or console ends it. The log takes nothing.
+/// `solo FILE` reads the image file whole, runs its guest by the rounds of one thread, and writes what the guest sends to
+/// the console; the run's journal is then written to its file if one is named. `replay FILE JOURNAL` reads both files, makes
+/// the journal's steps again from the image's start, and writes what its guest sent. The first refusal of host or console
+/// decides the status. The log takes nothing.
 pub fn still_cmd<H: Host, S: Sink, L: Sink>(
     alloc: Global,
     command: &Command,
@@ -28,35 +33,48 @@ pub fn still_cmd<H: Host, S: Sink, L: Sink>(
 ) -> Outcome
     ensures statuses { Contains statuses result.status }
 
-    // What each status says of the file and of the console.
-    ensures answers { Answers (H.tells host.old) (H.file host.old (file_name command.now))
-        (S.tells console.old) (S.taken console.old) (S.taken console.new) result.status }
+    // What the status says of the files, of the console and of the run that is kept.
+    ensures answers { Answers command.now (outside (H.tells host.old) (H.file host.old) (H.file host.new)
+        (S.tells console.old) (S.taken console.old) (S.taken console.new)) result.status result.kept }
+
+    // A run that is kept began at the start of the image's file, its journal is a history, and it is what follows it.
+    ensures start { IfSome result.kept (λ k. IsFileOf (H.tells host.old) (H.file host.old (image_name command.now)) IsStart k.start) }
+    ensures legal { IfSome result.kept (λ k. IsLegal k.start k.journal) }
+    ensures last { IfSome result.kept (λ k. k.run.state ≡ last_state k.start k.journal) }
+    ensures untouched { IfNone result.kept (console.new ≡ console.old) }
 
     // A refusal of host or console has its status, and the status of a refusal has its cause.
     ensures causes { HasCauses result.status (H.faults host.old) (H.faults host.new)
         (H.misses host.old) (H.misses host.new) (S.faults console.old) (S.faults console.new) }
 
-    // Where nobody refused, an image runs to its end, and what is none is refused.
-    ensures complete { (bytes : List ℕ) (f : FlatImage) → WhereTold (H.tells host.old)
-        (H.file host.old (file_name command.now) ≡ Some bytes → IsImage memory_size bytes f
+    // What the files allow is done where nobody refuses, and what they don't allow is refused.
+    ensures complete { WhereTold (H.tells host.old) (CanDo (H.file host.old) command.now
         → NoneRose (H.faults host.old) (H.faults host.new) (H.misses host.old) (H.misses host.new)
         (S.faults console.old) (S.faults console.new)
-        → Contains ended_statuses result.status) }
-    ensures refuses { (bytes : List ℕ) → WhereTold (H.tells host.old)
-        (H.file host.old (file_name command.now) ≡ Some bytes → IsNoImage bytes
+        → Contains (done_statuses command.now) result.status) }
+    ensures refuses { WhereTold (H.tells host.old) (MustRefuse (H.file host.old) command.now
         → Contains refused_statuses result.status) }
+    ensures twice { IsTwice command.now → (result.status ≡ 3) × (host.new ≡ host.old) × (console.new ≡ console.old) }
 
     // What stays.
-    ensures files { WhereTold (H.tells host.old) (H.file host.new ≡ H.file host.old) }
+    ensures changes { Changes command.now (H.tells host.old) (H.file host.old) (H.file host.new) }
     ensures image_faults { H.image_faults host.new ≡ H.image_faults host.old }
     ensures host_told { H.tells host.new ≡ H.tells host.old }
     ensures console_told { S.tells console.new ≡ S.tells console.old }
     ensures log { log.new ≡ log.old }
 {
-    outcome_of(run_file(alloc, command.file(), host, console))
+    match command {
+        Command::Solo { file, journal } => {
+            solo(alloc, file.as_str(), journal.as_ref(), host, console)
+        }
+        Command::Replay { file, journal } => {
+            replay_file(alloc, file.as_str(), journal.as_str(), host, console)
+        }
+    }
 }
 
-/// Does what words say: `solo FILE`, without the program's name before them.
+/// Does what words say: `solo FILE`, `solo FILE --journal JOURNAL` or `replay FILE JOURNAL`, without the program's name
+/// before them.
 ///
 /// Status 2 says that the words are none of these. Everything else is as with [`still_cmd`].
 pub fn vmrun<R: Threads + Wait + Sync, H: Host, S: Sink, L: Sink, G: Gate + Sync>(
@@ -68,31 +86,41 @@ pub fn vmrun<R: Threads + Wait + Sync, H: Host, S: Sink, L: Sink, G: Gate + Sync
     log: &mut L,
     _gate: &G,
 ) -> Outcome
-    ensures usage { (result.status ≡ 2) ↔ ((name : List ℕ) → AreSolo (map (λ w. w.now) words.entry.now) name → ⊥) }
-    ensures untouched { result.status ≡ 2 → (host.new ≡ host.old) × (console.new ≡ console.old) }
+    ensures usage { (result.status ≡ 2) ↔ ((command : CommandValue) → Says (map (λ w. w.now) words.entry.now) command → ⊥) }
+    ensures unused { result.status ≡ 2 → (host.new ≡ host.old) × (console.new ≡ console.old) × IsNone result.kept }
     ensures statuses { Contains (2 ∷ statuses) result.status }
 
-    // What each status says of the file and of the console.
-    ensures answers { (name : List ℕ) → AreSolo (map (λ w. w.now) words.entry.now) name
-        → Answers (H.tells host.old) (H.file host.old name)
-        (S.tells console.old) (S.taken console.old) (S.taken console.new) result.status }
+    // What the status says of the files, of the console and of the run that is kept.
+    ensures answers { (command : CommandValue) → Says (map (λ w. w.now) words.entry.now) command
+        → Answers command (outside (H.tells host.old) (H.file host.old) (H.file host.new)
+        (S.tells console.old) (S.taken console.old) (S.taken console.new)) result.status result.kept }
+
+    // A run that is kept began at the start of the image's file, its journal is a history, and it is what follows it.
+    ensures start { (command : CommandValue) → Says (map (λ w. w.now) words.entry.now) command
+        → IfSome result.kept (λ k. IsFileOf (H.tells host.old) (H.file host.old (image_name command)) IsStart k.start) }
+    ensures legal { IfSome result.kept (λ k. IsLegal k.start k.journal) }
+    ensures last { IfSome result.kept (λ k. k.run.state ≡ last_state k.start k.journal) }
+    ensures untouched { IfNone result.kept (console.new ≡ console.old) }
 
     // A refusal of host or console has its status, and the status of a refusal has its cause.
     ensures causes { HasCauses result.status (H.faults host.old) (H.faults host.new)
         (H.misses host.old) (H.misses host.new) (S.faults console.old) (S.faults console.new) }
 
-    // Where nobody refused, an image runs to its end, and what is none is refused.
-    ensures complete { (name bytes : List ℕ) (f : FlatImage) → AreSolo (map (λ w. w.now) words.entry.now) name
-        → WhereTold (H.tells host.old) (H.file host.old name ≡ Some bytes → IsImage memory_size bytes f
+    // What the files allow is done where nobody refuses, and what they don't allow is refused.
+    ensures complete { (command : CommandValue) → Says (map (λ w. w.now) words.entry.now) command
+        → WhereTold (H.tells host.old) (CanDo (H.file host.old) command
         → NoneRose (H.faults host.old) (H.faults host.new) (H.misses host.old) (H.misses host.new)
         (S.faults console.old) (S.faults console.new)
-        → Contains ended_statuses result.status) }
-    ensures refuses { (name bytes : List ℕ) → AreSolo (map (λ w. w.now) words.entry.now) name
-        → WhereTold (H.tells host.old) (H.file host.old name ≡ Some bytes → IsNoImage bytes
+        → Contains (done_statuses command) result.status) }
+    ensures refuses { (command : CommandValue) → Says (map (λ w. w.now) words.entry.now) command
+        → WhereTold (H.tells host.old) (MustRefuse (H.file host.old) command
         → Contains refused_statuses result.status) }
+    ensures twice { (command : CommandValue) → Says (map (λ w. w.now) words.entry.now) command → IsTwice command
+        → Contains (3 ∷ 71 ∷ []) result.status × (host.new ≡ host.old) × (console.new ≡ console.old) }
 
     // What stays.
-    ensures files { WhereTold (H.tells host.old) (H.file host.new ≡ H.file host.old) }
+    ensures changes { (command : CommandValue) → Says (map (λ w. w.now) words.entry.now) command
+        → Changes command (H.tells host.old) (H.file host.old) (H.file host.new) }
     ensures image_faults { H.image_faults host.new ≡ H.image_faults host.old }
     ensures host_told { H.tells host.new ≡ H.tells host.old }
     ensures console_told { S.tells console.new ≡ S.tells console.old }
@@ -100,7 +128,13 @@ pub fn vmrun<R: Threads + Wait + Sync, H: Host, S: Sink, L: Sink, G: Gate + Sync
 {
     match command_of(alloc, words) {
         Ok(command) => still_cmd(alloc, &command, host, console, log),
-        Err(WordsFault::Usage) => Outcome { status: 2 },
-        Err(WordsFault::Memory) => Outcome { status: 71 },
+        Err(WordsFault::Usage) => Outcome {
+            status: 2,
+            kept: None,
+        },
+        Err(WordsFault::Memory) => Outcome {
+            status: 71,
+            kept: None,
+        },
     }
 }

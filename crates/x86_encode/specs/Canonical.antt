@@ -1,11 +1,9 @@
 -- The canonical spelling of an instruction: the least of all its spellings.
-use Rattle.std.specs.Prelude.{◌≡◌, ℕ, ◌≤◌, ◌↔◌, true, List, length, take, Contains, Result, Ok, Err, IfOk}
+use Rattle.std.specs.Prelude.{◌≡◌, ℕ, true, List, length, Contains}
 use Rattle.vm_law.specs.declared.insn.Insn.{Insn}
 use Rattle.vm_law.specs.declared.table.Row.{Row}
 use Rattle.vm_law.specs.declared.table.TheConstants.{ROWS}
-use Rattle.vm_law.specs.Grammar.{Spells, Spelled, IsPartial, IsUnknown}
-use Rattle.x86_decode.specs.declared.fault.DecodeFault.{DecodeFault}
-use Rattle.x86_decode.specs.declared.fault.DecodeFault.TheVariants.{Short, Unknown}
+use Rattle.vm_law.specs.Grammar.{Spells, Spelled}
 use Rattle.x86_encode.specs.declared.labels.Labels.{Labels}
 use Rattle.x86_encode.specs.Order.{before}
 
@@ -34,10 +32,3 @@ HasLabelled labels insn = (b : List ℕ) × Labelled labels b insn
 pub record IsCanonicalWith (labels : Labels) (insn : Insn) (b : List ℕ) : Type 0 where
   pub labelled : Labelled labels b insn
   pub least : (c : List ℕ) → Labelled labels c insn → before b c ≡ true
-
--- what a decoder may answer at some bytes: the contract of `decode`
-pub record IsDecoded (bytes : List ℕ) (answer : Result (Insn × ℕ) DecodeFault) : Type 0 where
-  pub found : IfOk answer (λ x. (x.1 ≤ length bytes) × Spelled (take x.1 bytes) x.0)
-  pub only : (insn : Insn) (n : ℕ) → n ≤ length bytes → Spelled (take n bytes) insn → answer ≡ Ok (insn, n)
-  pub short : (answer ≡ Err Short) ↔ IsPartial bytes
-  pub unknown : (answer ≡ Err Unknown) ↔ IsUnknown bytes

@@ -1,7 +1,7 @@
-ghost use Rattle.std.specs.Prelude.{◌≡◌, ◌↔◌, ◌≤◌, ◌++◌, ℕ, IsTrue, List, length, take, drop, Result, Ok};
+ghost use Rattle.std.specs.Prelude.{◌≡◌, ◌↔◌, ◌≤◌, ◌++◌, ℕ, IsTrue, List, length, take, drop, Ok};
 ghost use Rattle.vm_law.specs.declared.insn.Insn.{Insn};
-ghost use Rattle.x86_decode.specs.declared.fault.DecodeFault.{DecodeFault};
-ghost use Rattle.x86_encode.specs.Canonical.{HasSpelling, IsCanonical, HasLabelled, IsCanonicalWith, IsDecoded};
+ghost use Rattle.x86_decode.specs.Reading.{decoded};
+ghost use Rattle.x86_encode.specs.Canonical.{HasSpelling, IsCanonical, HasLabelled, IsCanonicalWith};
 
 use crate::labels::Labels;
 use crate::least::least;
@@ -65,9 +65,8 @@ pub fn encode(insn: &Insn, into: &mut [u8; 15]) -> u8
     encode_labelled(insn, NO_LABELS, into)
 }
 
-/// The law of reading back: of the canonical spelling of an instruction, with any bytes behind it, a
-/// decoder that meets the contract of `decode` answers the instruction and the spelling's length.
+/// The law of reading back: the canonical spelling of an instruction, with any bytes behind it, decodes as
+/// the instruction and the spelling's length.
 pub fn encoded_decodes()
-    ensures { (insn : Insn) (b more : List ℕ) (answer : Result (Insn × ℕ) DecodeFault) →
-        IsCanonical insn b → IsDecoded (b ++ more) answer → answer ≡ Ok (insn, length b) }
+    ensures { (insn : Insn) (b more : List ℕ) → IsCanonical insn b → decoded (b ++ more) ≡ Ok (insn, length b) }
 {}

@@ -1,16 +1,7 @@
-ghost use Rattle.x86_encode.specs.Canonical.{IsDecoded};
-
 use crate::cases::{ARITHMETIC, CONTROL, Case, LABELLED, MOVES, OPERATIONS};
 use crate::{Labels, encode, encode_labelled, encoded_decodes, labelled, spelled};
 use vm_law::{Count, Insn, Loc, Map, Mem, Op, ROWS, Row, Src, Width};
-use x86_decode::{DecodeFault, decode};
-
-/// What `decode` answers, which is all that the law of reading back asks of a decoder.
-fn decoded(bytes: &[u8]) -> Result<(Insn, u8), DecodeFault>
-    ensures { IsDecoded bytes.now result }
-{
-    decode(bytes)
-}
+use x86_decode::decode;
 
 /// The bytes as the digits of one number.
 fn number_of(bytes: &[u8]) -> u128 {
@@ -85,7 +76,7 @@ fn is_read_back(insn: &Insn, len: u8) -> bool {
     }
     let mut into = [0xF3; 15];
     let count = encode(insn, &mut into);
-    count <= len && decoded(&into) == Ok((*insn, count))
+    count <= len && decode(&into) == Ok((*insn, count))
 }
 
 const LEAD: [u8; 4] = [0x66, 0x40, 0x48, 0x4F];

@@ -1,10 +1,13 @@
-use Rattle.std.proofs.Common.{ℕ, List, length, sym, subst, arith}
+use Rattle.std.proofs.Common.{◌≡◌, ℕ, ◌≤◌, List, ◌++◌, length, sym, subst, arith}
 use Rattle.std.proofs.Math.Seq.{take-append_seam}
 use Rattle.std.proofs.lemmas.List.{length-append}
 use Rattle.vm_law.specs.Grammar.{Spelled}
+use Rattle.x86_decode.specs.Reading.{decoded}
+use Rattle.x86_decode.proofs.Exact.{only}
 use Rattle.x86_encode.proofs.encoder.encoded_decodes.Goals as goal
 
 pub returns : goal.returns
-returns c = λ insn b more answer k d.
+unfolding decoded
+returns c = λ insn b more k.
     let n = length-append b more in
-    d.only insn (length b) (omega arith) (subst (λ (l : List ℕ). Spelled l insn) (sym (take-append_seam b more)) k.spelled)
+    only (b ++ more) insn (length b) (omega arith) (subst (λ (l : List ℕ). Spelled l insn) (sym (take-append_seam b more)) k.spelled)

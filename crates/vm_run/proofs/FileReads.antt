@@ -1,0 +1,59 @@
+-- What a file that couldn't be read whole says.
+use Rattle.std.proofs.Common.{◌≡◌, ℕ, ◌<◌, Bool, true, false, List, [], length, Option, None, Result, Ok, Err, IsSomeAnd, IsErrOf, refl, ap, subst, sym, arith}
+use Rattle.std.specs.Result.{IsErrAnd}
+use Rattle.vm_law.specs.declared.journal.Signed.{Signed}
+use Rattle.vm_host.specs.Told.{WhereTold}
+use Rattle.vm_host.specs.declared.host.HostFault.TheVariants as host
+use Rattle.ckpt_store.specs.declared.loading.LoadFault.{LoadFault}
+use Rattle.ckpt_store.specs.declared.loading.LoadFault.TheVariants as loading
+use Rattle.vm_machine.specs.declared.start.Start.{Start}
+use Rattle.vm_run.specs.declared.ending.Fault.{Fault}
+use Rattle.vm_run.specs.Ends.{after_load}
+use Rattle.vm_run.specs.Files.{Reads, IsRefused, IsJournal}
+use Rattle.vm_run.specs.Starting.{IsStart}
+use Rattle.vm_run.proofs.Pieces.{there}
+
+module _ {X : Type 0} where
+  pub err_is : (r : Result X Fault) (f : Fault) → IsErrAnd r (λ e. e ≡ f) → r ≡ Err f
+  err_is (Ok x) f h = absurd h
+  err_is (Err e) f h = ap {A = Fault} {B = Result X Fault} (λ e. Err e) h
+
+  module _ (told : Bool) (file : Option (List ℕ)) (Means : List ℕ → X → Type 0) (most : ℕ)
+      (too_long : (bytes : List ℕ) (x : X) → most < length bytes → Means bytes x → ⊥)
+      (some : (x : X) → Means [] x → ⊥) where
+    -- a file that is too long, where its host tells it, and any other bytes where it doesn't
+    long_refused : (t : Bool) → (t ≡ true → IsSomeAnd file (λ f. most < length f)) → IsRefused t file Means
+    long_refused true long =
+        let found = there file (λ f. most < length f) (long refl) in
+        record { bytes = found.0; is_file = λ _. found.1; none = λ x m. too_long found.0 x found.2 m }
+    long_refused false long =
+        record { bytes = []; is_file = λ t. absurd (let e : false ≡ true = t in cc); none = some }
+
+    load_reads : {V : Type 0} (r : Result V LoadFault) (fault : LoadFault) → r ≡ Err fault
+        → WhereTold told (IsErrOf r loading.Long → IsSomeAnd file (λ f. most < length f))
+        → WhereTold told (IsErrOf r (loading.Host host.Missing) → file ≡ None)
+        → Reads told file Means (Err (after_load fault))
+    load_reads r (loading.Host host.Missing) is long missing = λ t. missing t is
+    load_reads r (loading.Host host.Failed) is long missing = tt
+    load_reads r (loading.Host host.Memory) is long missing = tt
+    load_reads r loading.Long is long missing = long_refused told (λ t. long t is)
+
+    pub reads_nothing : {V : Type 0} (r : Result V LoadFault) (fault : LoadFault) (result : Result X Fault) → r ≡ Err fault
+        → WhereTold told (IsErrOf r loading.Long → IsSomeAnd file (λ f. most < length f))
+        → WhereTold told (IsErrOf r (loading.Host host.Missing) → file ≡ None)
+        → IsErrAnd result (λ e. e ≡ after_load fault) → Reads told file Means result
+    reads_nothing r fault result is long missing e =
+        subst (λ (x : Result X Fault). Reads told file Means x) (sym (err_is result (after_load fault) e)) (load_reads r fault is long missing)
+
+-- a file of more bytes than an image of this memory has isn't one
+pub long_is_no_start : (bytes : List ℕ) (start : Start) → 268435480 < length bytes → IsStart bytes start → ⊥
+long_is_no_start bytes start lt s = omega (arith, ap length s.is_image.spelled, s.is_image.allowed.fits)
+
+pub nothing_is_no_start : (start : Start) → IsStart [] start → ⊥
+nothing_is_no_start start s = omega (arith, ap length s.is_image.spelled)
+
+pub long_is_no_journal : (bytes : List ℕ) (journal : List Signed) → 4294967296 < length bytes → IsJournal bytes journal → ⊥
+long_is_no_journal bytes journal lt j = omega (arith, j.short)
+
+pub nothing_is_no_journal : (journal : List Signed) → IsJournal [] journal → ⊥
+nothing_is_no_journal journal j = omega (arith, ap length j.spelled)

@@ -1,0 +1,85 @@
+//! The start that an image's file gives.
+ghost use Rattle.std.specs.Prelude.{◌≡◌, ◌∷◌, [], IfOk};
+ghost use Rattle.vm_law.specs.declared.script.Order.TheVariants.{WaitQuiet};
+ghost use Rattle.vm_host.specs.Told.{WhereTold};
+ghost use Rattle.vm_machine.specs.Starting.{IsSound};
+ghost use Rattle.vm_run.specs.Ends.{HasHostCauses, status_of};
+ghost use Rattle.vm_run.specs.Files.{Reads};
+ghost use Rattle.vm_run.specs.Starting as spec;
+
+use crate::ending::Fault;
+use crate::image::{IMAGE_LIMIT, MEMORY_SIZE, parts_of};
+use ckpt_store::load;
+use std::alloc::Global;
+use vm_host::Host;
+use vm_law::{FlatImage, Order, OutOfMemory, Plan, Script, Seq, Text};
+use vm_machine::{Origin, Start};
+
+/// How many instructions a guest may execute.
+const INSTRUCTION_LIMIT: u64 = 10_000_000;
+
+/// The start of the image in a file, under the default plan.
+pub(crate) fn start_from<H: Host>(alloc: Global, host: &mut H, name: &str) -> Result<Start, Fault>
+    ensures reads { Reads (H.tells host.old) (H.file host.old name.now) spec.IsStart result }
+    ensures sound { IfOk result IsSound }
+    ensures one { IfOk result (λ start. start.plan.cpus ≡ 1) }
+    ensures script { IfOk result (λ start. start.script ≡ WaitQuiet ∷ []) }
+    ensures causes { HasHostCauses (status_of result) (H.faults host.old) (H.faults host.new)
+        (H.misses host.old) (H.misses host.new) }
+    ensures image_faults { H.image_faults host.new ≡ H.image_faults host.old }
+    ensures told { H.tells host.new ≡ H.tells host.old }
+    ensures files { WhereTold (H.tells host.old) (H.file host.new ≡ H.file host.old) }
+{
+    let bytes = load(alloc, host, name, IMAGE_LIMIT)?;
+    let Some(parts) = parts_of(&bytes) else {
+        return Err(Fault::Refused);
+    };
+    let payload = Seq::from_slice(alloc, parts.payload)?;
+    let image = FlatImage {
+        entry: parts.entry,
+        code: parts.code,
+        payload,
+    };
+    let start = start_of(alloc, image)?;
+    Ok(start)
+}
+
+/// The start of an image, under the default plan.
+fn start_of(alloc: Global, image: FlatImage) -> Result<Start, OutOfMemory>
+    ensures { IfOk result (λ start. start ≡ spec.start_of image) }
+{
+    let plan = default_plan(alloc)?;
+    let script = default_script(alloc)?;
+    Ok(Start {
+        plan,
+        origin: Origin::Flat(image),
+        disks: Seq::new(alloc),
+        script,
+        limit: INSTRUCTION_LIMIT,
+    })
+}
+
+/// One vCPU, 256 MiB of memory, no name and no disk.
+fn default_plan(alloc: Global) -> Result<Plan, OutOfMemory>
+    ensures { IfOk result (λ plan. plan ≡ spec.default_plan) }
+{
+    let name = Text::from_text(alloc, "")?;
+    Ok(Plan {
+        cpus: 1,
+        memory: MEMORY_SIZE as u64,
+        name,
+        image: None,
+        script: None,
+        disks: Seq::new(alloc),
+        notbuilt: Seq::new(alloc),
+    })
+}
+
+/// Waits until nothing more can happen by itself.
+fn default_script(alloc: Global) -> Result<Script, OutOfMemory>
+    ensures { IfOk result (λ script. script ≡ WaitQuiet ∷ []) }
+{
+    let mut orders = Seq::new(alloc);
+    orders.push(Order::WaitQuiet)?;
+    Ok(orders)
+}
