@@ -14,11 +14,12 @@ use Rattle.vm_machine.specs.declared.state.Core.{Core}
 use Rattle.vm_machine.specs.declared.state.Cpu.{Cpu}
 use Rattle.vm_machine.specs.declared.state.Seat.{Seat}
 use Rattle.vm_machine.specs.declared.state.Why.{Why}
-use Rattle.vm_machine.specs.declared.fetching.Next.{Next}
-use Rattle.vm_machine.specs.declared.fetching.Next.TheVariants.{Local, Shared, AtStop}
-use Rattle.vm_machine.specs.State.{seat_at, with_cpu, empty_seat}
+use Rattle.vm_law.specs.Memory.{Memory}
+use Rattle.vm_law.specs.declared.context.Stop.{Stop}
+use Rattle.vm_machine.specs.State.{cpu_at, seat_at, with_cpu, with_ram, empty_seat}
+use Rattle.vm_machine.specs.Stepping.{Outcome}
 use Rattle.vm_machine.specs.Owners.{after_claim, may_exit, after_exit, after_yield}
-use Rattle.vm_machine.specs.Running.{open_grants, may_enter, after_enter, spent, may_slice, after_slice, next_at, may_step, stepped_at, after_step}
+use Rattle.vm_machine.specs.Running.{open_grants, may_enter, after_enter, spent, may_slice, after_slice, next_at, may_step, outcome_of, settled_by, settled, after_step}
 use Rattle.vm_machine.specs.Control.{after_done, after_end, after_close}
 use Rattle.vm_machine.specs.Table.{allowed, effect, counted}
 use Rattle.vm_machine.specs.Sound.{IsSoundCore, RanWithin}
@@ -161,16 +162,31 @@ step_tells s p i m = record {
   left = grind (arith, nat_tests, common_steps, and_parts);
 }
 
-keeps_stepped : (s : Core) (i : ℕ) (next : Next) → IsSoundCore s → Spends s i 1 → IsSoundCore (stepped_at s i next)
-unfolding stepped_at
-keeps_stepped s i (Local insn len) h t = h
-keeps_stepped s i (Shared insn len) h t =
-    keeps_spent (with_cpu s i _) i 1 (keeps_cpu s i _ h) (record { cpu = simp length-set t.cpu; left = t.left })
-keeps_stepped s i (AtStop why) h t = keeps_ended s _ h
+-- other memory
+keeps_ram : (s : Core) (ram : Memory) → IsSoundCore s → IsSoundCore (with_ram s ram)
+keeps_ram s ram h = record {
+  some_cpu = h.some_cpu;
+  cpus = h.cpus;
+  seats = h.seats;
+  granted = h.granted;
+  limit = h.limit;
+  ran = h.ran;
+  script = h.script;
+}
+
+keeps_settled : (s : Core) (i : ℕ) (o : Outcome) (stop : Option Stop) → IsSoundCore s → Spends s i 1 → IsSoundCore (settled_by s i o stop)
+unfolding settled_by
+keeps_settled s i o (Some why) h t = keeps_ended s _ h
+keeps_settled s i o None h t =
+    keeps_spent (with_ram (with_cpu s i _) o.memory) i 1 (keeps_ram (with_cpu s i _) o.memory (keeps_cpu s i _ h)) (record { cpu = simp length-set t.cpu; left = t.left })
+
+keeps_stepped : (s : Core) (i : ℕ) (o : Option Outcome) → IsSoundCore s → Spends s i 1 → IsSoundCore (settled s i o)
+keeps_stepped s i None h t = h
+keeps_stepped s i (Some o) h t = keeps_settled s i o o.stop h t
 
 keeps_step : (s : Core) (p i : ℕ) → IsSoundCore s → IsTrue (may_step s p i) → IsSoundCore (after_step s i)
 unfolding after_step
-keeps_step s p i h m = keeps_stepped s i (next_at s i) h (step_tells s p i m)
+keeps_step s p i h m = keeps_stepped s i (outcome_of (cpu_at s i).ctx s.machine.ram (next_at s i)) h (step_tells s p i m)
 
 keeps_done : (s : Core) → IsSoundCore s → IsSoundCore (after_done s)
 unfolding after_done
@@ -229,11 +245,14 @@ keeps_effect s p e h m = h
 pub keeps : (s : Core) (p : ℕ) (e : Entry) → IsSoundCore s → IsTrue (allowed s p e) → IsSoundCore (counted (effect s p e))
 keeps s p e h m = keeps_counted (effect s p e) (keeps_effect s p e h m)
 
-length_stepped : (s : Core) (i : ℕ) (next : Next) → length (stepped_at s i next).machine.cpus ≡ length s.machine.cpus
-unfolding stepped_at spent
-length_stepped s i (Local insn len) = refl
-length_stepped s i (Shared insn len) = simp length-set
-length_stepped s i (AtStop why) = refl
+length_settled : (s : Core) (i : ℕ) (o : Outcome) (stop : Option Stop) → length (settled_by s i o stop).machine.cpus ≡ length s.machine.cpus
+unfolding settled_by spent
+length_settled s i o None = simp length-set
+length_settled s i o (Some why) = refl
+
+length_stepped : (s : Core) (i : ℕ) (o : Option Outcome) → length (settled s i o).machine.cpus ≡ length s.machine.cpus
+length_stepped s i None = refl
+length_stepped s i (Some o) = length_settled s i o o.stop
 
 -- no entry adds or removes a vCPU
 pub length_effect : (s : Core) (p : ℕ) (e : Entry) → length (counted (effect s p e)).machine.cpus ≡ length s.machine.cpus
@@ -241,7 +260,7 @@ unfolding counted effect after_claim after_enter after_slice after_step spent af
 length_effect s p (Claim i) = simp length-set
 length_effect s p (Enter i grant) = simp length-set
 length_effect s p (Slice i n) = simp length-set
-length_effect s p (Step i) = length_stepped s i (next_at s i)
+length_effect s p (Step i) = length_stepped s i (outcome_of (cpu_at s i).ctx s.machine.ram (next_at s i))
 length_effect s p (Exit i) = simp length-set
 length_effect s p (Yield i) = simp length-set
 length_effect s p (Done k) = refl

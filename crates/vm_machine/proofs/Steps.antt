@@ -4,7 +4,7 @@ use Rattle.std.proofs.lemmas.Bool.{cases_lt}
 use Rattle.std.specs.Prelude.{if◌then◌else◌}
 use Rattle.vm_law.specs.declared.context.Ctx.{Ctx}
 use Rattle.vm_machine.specs.declared.fetching.Next.{Next}
-use Rattle.vm_machine.specs.declared.fetching.Next.TheVariants.{Local, Shared, AtStop}
+use Rattle.vm_machine.specs.declared.fetching.Next.TheVariants.{Local, Shared, Undefined, OutOfCode}
 use Rattle.vm_machine.specs.Fetching.{next_of, is_local_next}
 use Rattle.vm_machine.specs.Slices.{stands_local, all_local, stepped_by, stepped, after_next, most_local}
 
@@ -30,7 +30,8 @@ all_local_fails code c (suc n) k l h =
 pub stays : (c : Ctx) (next : Next) → is_local_next next ≡ false → after_next c next ≡ c
 stays c (Local insn len) h = cc
 stays c (Shared insn len) h = refl
-stays c (AtStop why) h = refl
+stays c Undefined h = refl
+stays c OutOfCode h = refl
 
 pub stepped_stays : (code : List ℕ) (c : Ctx) → stands_local code c ≡ false → stepped code c ≡ c
 unfolding stepped stands_local

@@ -1,8 +1,7 @@
 pub mod State
-pub mod Built
-pub mod Effect
 pub mod Fetching
 pub mod Slices
+pub mod Stepping
 pub mod Owners
 pub mod Running
 pub mod Control

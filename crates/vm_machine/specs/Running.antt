@@ -2,13 +2,17 @@
 use Rattle.std.specs.Prelude.{ℕ, ◌+◌, ◌-◌, Bool, true, false, not, ◌&&◌, ◌==◌, nat_lt, nat_le, List, Option, Some, None, is_none}
 use Rattle.std.specs.List.{sum_by}
 use Rattle.vm_law.specs.declared.stage.Owned.TheVariants.{Running}
+use Rattle.vm_law.specs.Memory.{Memory}
+use Rattle.vm_law.specs.declared.context.Ctx.{Ctx}
+use Rattle.vm_law.specs.declared.context.Stop.{Stop}
+use Rattle.vm_law.specs.declared.context.Stop.TheVariants as stop
 use Rattle.vm_machine.specs.declared.state.Core.{Core}
 use Rattle.vm_machine.specs.declared.state.Seat.{Seat}
 use Rattle.vm_machine.specs.declared.state.Why.TheVariants.{Stopped}
 use Rattle.vm_machine.specs.declared.fetching.Next.{Next}
-use Rattle.vm_machine.specs.declared.fetching.Next.TheVariants.{Local, Shared, AtStop}
-use Rattle.vm_machine.specs.State.{is_cpu, cpu_at, seat_at, with_cpu, with_seat, code_of, is_frozen, is_running, is_starter}
-use Rattle.vm_machine.specs.Effect.{after_insn, output_of, is_halt}
+use Rattle.vm_machine.specs.declared.fetching.Next.TheVariants.{Local, Shared, Undefined, OutOfCode}
+use Rattle.vm_machine.specs.State.{is_cpu, cpu_at, seat_at, with_cpu, with_seat, with_ram, code_of, is_frozen, is_running, is_starter}
+use Rattle.vm_machine.specs.Stepping.{Outcome, performed, undefined, stopped}
 use Rattle.vm_machine.specs.Fetching.{next_of, is_local_next}
 use Rattle.vm_machine.specs.Slices.{all_local, stepped_by}
 
@@ -57,21 +61,32 @@ may_step s p i =
     is_cpu s i && is_running (cpu_at s i).stage p && nat_lt 0 (seat_at s i).left && not (cpu_at s i).halted && is_none s.ended
     && not (is_local_next (next_at s i)) && not (is_starter s.machine.meet i)
 
--- a Stop ends the run and changes nothing else
-unfoldable pub stepped_at : Core → ℕ → Next → Core
-stepped_at s i (Local insn len) = s
-stepped_at s i (Shared insn len) =
-    spent (with_cpu s i (record (cpu_at s i) { ctx = after_insn (cpu_at s i).ctx insn len; halted = is_halt insn.op })) i 1
-stepped_at s i (AtStop why) = record s { ended = Some (Stopped i why (cpu_at s i).ctx.rip) }
+-- what the next instruction does, where it isn't local
+unfoldable pub outcome_of : Ctx → Memory → Next → Option Outcome
+outcome_of c mem (Local insn len) = None
+outcome_of c mem (Shared insn len) = Some (performed c insn len mem)
+outcome_of c mem Undefined = Some (undefined c mem)
+outcome_of c mem OutOfCode = Some (stopped c mem stop.Fetch)
+
+abbrev pub outcome : Ctx → Memory → Bool → Option ℕ → Option Stop → Outcome
+outcome c mem halted output stop = record { ctx = c; memory = mem; halted = halted; output = output; stop = stop }
+
+-- a Stop ends the run and changes nothing else; else one instruction was executed
+unfoldable pub settled_by : Core → ℕ → Outcome → Option Stop → Core
+settled_by s i o (Some why) = record s { ended = Some (Stopped i why (cpu_at s i).ctx.rip) }
+settled_by s i o None = spent (with_ram (with_cpu s i (record (cpu_at s i) { ctx = o.ctx; halted = o.halted })) o.memory) i 1
+
+abbrev pub settled : Core → ℕ → Option Outcome → Core
+settled s i None = s
+settled s i (Some o) = settled_by s i o o.stop
 
 unfoldable pub after_step : Core → ℕ → Core
-after_step s i = stepped_at s i (next_at s i)
+after_step s i = settled s i (outcome_of (cpu_at s i).ctx s.machine.ram (next_at s i))
 
-unfoldable pub output_at : Core → ℕ → Next → Option ℕ
-output_at s i (Local insn len) = None
-output_at s i (Shared insn len) = output_of (cpu_at s i).ctx insn.op
-output_at s i (AtStop why) = None
+abbrev pub output_by : Option Outcome → Option ℕ
+output_by None = None
+output_by (Some o) = o.output
 
 -- the byte that the console receives
 unfoldable pub step_output : Core → ℕ → Option ℕ
-step_output s i = output_at s i (next_at s i)
+step_output s i = output_by (outcome_of (cpu_at s i).ctx s.machine.ram (next_at s i))

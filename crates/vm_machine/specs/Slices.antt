@@ -1,15 +1,16 @@
 -- Local instructions in a row: they touch the vCPU's own registers alone.
 use Rattle.std.specs.Prelude.{◌≡◌, ℕ, zero, suc, Bool, true, ◌&&◌, List, if◌then◌else◌}
 use Rattle.vm_law.specs.declared.context.Ctx.{Ctx}
+use Rattle.x86_op.specs.Table.{computed}
 use Rattle.vm_machine.specs.declared.fetching.Next.{Next}
-use Rattle.vm_machine.specs.declared.fetching.Next.TheVariants.{Local, Shared, AtStop}
-use Rattle.vm_machine.specs.Effect.{after_insn}
+use Rattle.vm_machine.specs.declared.fetching.Next.TheVariants.{Local, Shared, Undefined, OutOfCode}
 use Rattle.vm_machine.specs.Fetching.{next_of, is_local_next}
 
 abbrev pub after_next : Ctx → Next → Ctx
-after_next c (Local insn len) = after_insn c insn len
+after_next c (Local insn len) = (computed c insn len 0).ctx
 after_next c (Shared insn len) = c
-after_next c (AtStop why) = c
+after_next c Undefined = c
+after_next c OutOfCode = c
 
 -- the context after the next instruction, where it is local
 unfoldable pub stepped : List ℕ → Ctx → Ctx

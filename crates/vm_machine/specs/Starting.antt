@@ -1,7 +1,8 @@
 -- What a run starts from, and its first state.
 use Rattle.std.specs.Prelude.{◌≡◌, ℕ, ◌-◌, ◌%◌, ◌≤◌, true, false, List, [], ◌∷◌, length, replicate, None}
 use Rattle.vm_law.specs.declared.image.FlatImage.{FlatImage}
-use Rattle.vm_law.specs.Image.{IsAllowed, code_part}
+use Rattle.vm_law.specs.Image.{IsAllowed}
+use Rattle.guest_ram.specs.GuestRam.{loaded}
 use Rattle.vm_machine.specs.declared.state.Cpu.{Cpu}
 use Rattle.vm_machine.specs.declared.start.Origin.{Origin}
 use Rattle.vm_machine.specs.declared.start.Origin.TheVariants.{Flat}
@@ -37,13 +38,13 @@ first_cpu entry = record unstarted_cpu { ctx = ctx_from entry; started = true }
 abbrev pub boot_cpus : ℕ → ℕ → List Cpu
 boot_cpus count entry = first_cpu entry ∷ replicate (count - 1) unstarted_cpu
 
--- the first state: every vCPU idle, the code part of the image, no instruction executed and no order done
+-- the first state: every vCPU idle, the image in memory, no instruction executed and no order done
 unfoldable pub boot : Start → State
 boot start = record {
   core = record {
     machine = record {
       cpus = boot_cpus start.plan.cpus (image_of start.origin).entry;
-      code = code_part (image_of start.origin);
+      ram = loaded start.plan.memory (image_of start.origin);
       pause = false;
       meet = None;
     };

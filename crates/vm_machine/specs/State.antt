@@ -5,6 +5,8 @@ use Rattle.vm_law.specs.declared.stage.Owned.{Owned}
 use Rattle.vm_law.specs.declared.stage.Owned.TheVariants.{Idle, Frozen, Running, Sleeping}
 use Rattle.vm_law.specs.declared.context.Ctx.{Ctx}
 use Rattle.vm_law.specs.CpuSet.{has}
+use Rattle.vm_law.specs.Memory.{Memory}
+use Rattle.vm_law.specs.Memory.{code_of as code_part}
 use Rattle.vm_machine.specs.declared.state.Cpu.{Cpu}
 use Rattle.vm_machine.specs.declared.state.Seat.{Seat}
 use Rattle.vm_machine.specs.declared.state.Meeting.{Meeting}
@@ -53,9 +55,13 @@ with_seat s i seat = record s { seats = slice_set s.seats i seat }
 abbrev pub with_stage : Core → ℕ → Owned → Core
 with_stage s i stage = with_cpu s i (record (cpu_at s i) { stage = stage })
 
+-- the state with other memory
+abbrev pub with_ram : Core → Memory → Core
+with_ram s ram = record s { machine = record s.machine { ram = ram } }
+
 -- the code, from address 0 on
 abbrev pub code_of : Machine → List ℕ
-code_of m = m.code
+code_of m = code_part m.ram
 
 abbrev pub is_idle : Owned → Bool
 is_idle Idle = true

@@ -1,6 +1,5 @@
 //! The first state of a run.
 ghost use Rattle.std.specs.Prelude.{◌≡◌, ◌≤◌, length, take, replicate, IfOk};
-ghost use Rattle.vm_law.specs.Image.{code_part};
 ghost use Rattle.vm_machine.specs.State as state;
 ghost use Rattle.vm_machine.specs.Starting as spec;
 ghost use Rattle.vm_machine.specs.Sound.{IsSoundCore};
@@ -8,6 +7,7 @@ ghost use Rattle.vm_machine.specs.Sound.{IsSoundCore};
 use crate::copying::script_copy;
 use crate::start::{Origin, Start};
 use crate::state::{Core, Cpu, Machine, Seat};
+use guest_ram::GuestRam;
 use std::alloc::Global;
 use vm_law::{Ctx, FlatImage, OutOfMemory, Owned, Seq};
 
@@ -77,13 +77,6 @@ fn boot_seats(alloc: Global, count: u8) -> Result<Seq<Seat>, OutOfMemory>
     Ok(Seq::from_vec(seats))
 }
 
-fn code_of(alloc: Global, image: &FlatImage) -> Result<Seq<u8>, OutOfMemory>
-    requires { image.now.code ≤ length image.now.payload }
-    ensures { IfOk result (λ code. code ≡ code_part image.now) }
-{
-    Seq::from_slice(alloc, &image.payload.as_slice()[..image.code as usize])
-}
-
 fn image_of(origin: &Origin) -> &FlatImage
     ensures { result.now ≡ spec.image_of origin.now }
 {
@@ -100,12 +93,12 @@ fn first_core(alloc: Global, start: &Start) -> Result<Core, OutOfMemory>
     let image = image_of(&start.origin);
     let cpus = boot_cpus(alloc, start.plan.cpus, image.entry)?;
     let seats = boot_seats(alloc, start.plan.cpus)?;
-    let code = code_of(alloc, image)?;
+    let ram = GuestRam::new(alloc, start.plan.memory, image)?;
     let script = script_copy(alloc, &start.script)?;
     Ok(Core {
         machine: Machine {
             cpus,
-            code,
+            ram,
             pause: false,
             meet: None,
         },

@@ -6,9 +6,10 @@
 //! exactly the table's step, so that a list of entries has one meaning. From a [`Start`] a run begins by
 //! [`Run::begin`], and its readers give what the state holds.
 //!
-//! Built are Claim, Enter, Slice, Step, Exit, Yield, Done for `wait quiet`, End and Close, and of the
-//! instructions those that the opcodes B0+r, B8+r, EB, EE and F4 spell. An entry of another kind is lawful
-//! nowhere, and an instruction that isn't built stops the run.
+//! Built are Claim, Enter, Slice, Step, Exit, Yield, Done for `wait quiet`, End and Close, with all instructions:
+//! a Slice runs those that touch a vCPU's own registers, a Step one that reaches memory or a port, with the exception
+//! that it may raise. An entry of another kind is lawful nowhere. No device is wired in yet: the data port of the
+//! serial port takes bytes for the console, other ports give all ones, and the devices' windows give 0.
 //!
 //! The definitions say besides what a legal history is, what it shows, and which entries an actor adds in its
 //! turn. The stages of a vCPU follow FreeBSD's vmm(4), and the instructions the Intel SDM, volume 2; the table
@@ -16,10 +17,8 @@
 #![tactic(auto)]
 
 mod booting;
-mod built;
 mod control;
 mod copying;
-mod effect;
 mod fetching;
 mod owners;
 mod run;
@@ -27,6 +26,7 @@ mod running;
 mod slices;
 mod start;
 mod state;
+mod stepping;
 mod table;
 
 pub use fetching::{Next, next_of};

@@ -1,16 +1,17 @@
 //! A vCPU runs: Enter, Slice, Step.
-ghost use Rattle.std.specs.Prelude.{◌≡◌, ◌<◌, ◌≤◌, ◌+◌, ◌^◌, length, IsTrue};
+ghost use Rattle.std.specs.Prelude.{◌≡◌, ◌<◌, ◌≤◌, ◌+◌, ◌^◌, length, IsTrue, Some};
 ghost use Rattle.vm_machine.specs.State as state;
 ghost use Rattle.vm_machine.specs.Running as spec;
 ghost use Rattle.vm_machine.specs.Slices as slices;
-ghost use Rattle.vm_machine.specs.Fetching as fetching;
+ghost use Rattle.vm_machine.specs.declared.state.Why.{Why};
+ghost use Rattle.vm_machine.specs.declared.fetching.Next.{Next};
 ghost use Rattle.vm_machine.specs.Sound.{IsSoundCore};
 
-use crate::effect::{is_halt, output_of, run_shared};
 use crate::fetching::{Next, next_of};
 use crate::slices::{all_local, run_many};
 use crate::state::{Core, Meeting, Seat, Why};
-use vm_law::{Ctx, Insn, Owned};
+use crate::stepping::{Performed, perform, undefined};
+use vm_law::{Ctx, Insn, Owned, Stop};
 
 const LARGEST_GRANT: u16 = 1024;
 
@@ -96,7 +97,7 @@ pub(crate) fn may_slice(core: &Core, by: u16, i: u8, count: u16) -> bool
     if count < 1 || count > core.seats.at(i as usize).left || is_starter(&core.machine.meet, i) {
         return false;
     }
-    all_local(core.machine.code.as_slice(), &cpu.ctx, count)
+    all_local(core.machine.ram.code_part(), &cpu.ctx, count)
 }
 
 /// The Slice whose context after it was computed elsewhere.
@@ -118,7 +119,7 @@ pub(crate) fn slice(core: &mut Core, by: u16, i: u8, count: u16)
     ensures { core.new ≡ spec.after_slice core.old i count }
 {
     let mut ctx = core.machine.cpus.at(i as usize).ctx;
-    run_many(core.machine.code.as_slice(), &mut ctx, count);
+    run_many(core.machine.ram.code_part(), &mut ctx, count);
     put_slice(core, by, i, count, ctx);
 }
 
@@ -126,10 +127,9 @@ pub(crate) fn slice(core: &mut Core, by: u16, i: u8, count: u16)
 fn next_at(core: &Core, i: u8) -> Next
     requires { IsTrue (state.is_cpu core.now i) }
     ensures next { result ≡ spec.next_at core.now i }
-    ensures built { fetching.IsBuilt result }
 {
     next_of(
-        core.machine.code.as_slice(),
+        core.machine.ram.code_part(),
         &core.machine.cpus.at(i as usize).ctx,
     )
 }
@@ -151,29 +151,69 @@ pub(crate) fn may_step(core: &Core, by: u16, i: u8) -> bool
     }
     match next_at(core, i) {
         Next::Local { .. } => false,
-        Next::Shared { .. } | Next::AtStop(_) => true,
+        Next::Shared { .. } | Next::Undefined | Next::OutOfCode => true,
     }
 }
 
-/// One shared instruction, and the byte that it gives to the console.
-#[tactic(auto, unfolding(crate::specs::Running::stepped_at, crate::specs::Running::output_at))]
+/// A Stop ends the run and changes nothing else.
+fn stop(core: &mut Core, i: u8, stop: Stop)
+    requires { IsTrue (state.is_cpu core.old i) }
+    ensures { core.new ≡ record core.old { ended = Some (Why.Stopped i stop (state.cpu_at core.old i).ctx.rip) } }
+{
+    let rip = core.machine.cpus.at(i as usize).ctx.rip;
+    core.ended = Some(Why::Stopped { cpu: i, stop, rip });
+}
+
+/// Notes what an instruction did, whose memory stands already, and gives its byte for the console.
+#[tactic(auto, unfolding(crate::specs::Running::settled_by))]
+fn settle(core: &mut Core, i: u8, ctx: Ctx, done: Performed) -> Option<u8>
+    requires sound { IsSoundCore core.old }
+    requires cpu { IsTrue (state.is_cpu core.old i) }
+    requires left { 1 ≤ (state.seat_at core.old i).left }
+    ensures state { core.new ≡ spec.settled_by core.old i (spec.outcome ctx core.old.machine.ram done.halted done.output done.stop) done.stop }
+    ensures output { result ≡ done.output }
+{
+    match done.stop {
+        Some(why) => stop(core, i, why),
+        None => {
+            let cpu = core.machine.cpus.at_mut(i as usize);
+            cpu.ctx = ctx;
+            cpu.halted = done.halted;
+            spend(core, i, 1);
+        }
+    }
+    done.output
+}
+
+/// One instruction that isn't local, and the byte that it gives to the console.
+#[tactic(auto, unfolding(crate::specs::Running::outcome_of))]
 fn share(core: &mut Core, i: u8, insn: Insn, len: u8) -> Option<u8>
     requires sound { IsSoundCore core.old }
     requires cpu { IsTrue (state.is_cpu core.old i) }
     requires left { 1 ≤ (state.seat_at core.old i).left }
-    requires built { fetching.IsBuilt (Next.Shared insn len) }
-    ensures state { core.new ≡ spec.stepped_at core.old i (Next.Shared insn len) }
-    ensures output { result ≡ spec.output_at core.old i (Next.Shared insn len) }
+    ensures state { core.new ≡ spec.settled core.old i (spec.outcome_of (state.cpu_at core.old i).ctx core.old.machine.ram (Next.Shared insn len)) }
+    ensures output { result ≡ spec.output_by (spec.outcome_of (state.cpu_at core.old i).ctx core.old.machine.ram (Next.Shared insn len)) }
 {
-    let cpu = core.machine.cpus.at_mut(i as usize);
-    let byte = output_of(&cpu.ctx, insn.op);
-    run_shared(&mut cpu.ctx, &insn, len);
-    cpu.halted = is_halt(insn.op);
-    spend(core, i, 1);
-    byte
+    let mut ctx = core.machine.cpus.at(i as usize).ctx;
+    let done = perform(&mut ctx, &mut core.machine.ram, &insn, len);
+    settle(core, i, ctx, done)
 }
 
-#[tactic(auto, unfolding(crate::specs::Running::may_step, crate::specs::Running::after_step, crate::specs::Running::step_output, crate::specs::Running::stepped_at, crate::specs::Running::output_at))]
+/// Bytes that no instruction spells.
+#[tactic(auto, unfolding(crate::specs::Running::outcome_of))]
+fn refuse(core: &mut Core, i: u8) -> Option<u8>
+    requires sound { IsSoundCore core.old }
+    requires cpu { IsTrue (state.is_cpu core.old i) }
+    requires left { 1 ≤ (state.seat_at core.old i).left }
+    ensures state { core.new ≡ spec.settled core.old i (spec.outcome_of (state.cpu_at core.old i).ctx core.old.machine.ram Next.Undefined) }
+    ensures output { result ≡ spec.output_by (spec.outcome_of (state.cpu_at core.old i).ctx core.old.machine.ram Next.Undefined) }
+{
+    let mut ctx = core.machine.cpus.at(i as usize).ctx;
+    let done = undefined(&mut ctx, &mut core.machine.ram);
+    settle(core, i, ctx, done)
+}
+
+#[tactic(auto, unfolding(crate::specs::Running::may_step, crate::specs::Running::after_step, crate::specs::Running::step_output, crate::specs::Running::outcome_of, crate::specs::Running::settled_by))]
 pub(crate) fn step(core: &mut Core, by: u16, i: u8) -> Option<u8>
     requires sound { IsSoundCore core.old }
     requires may { IsTrue (spec.may_step core.old by i) }
@@ -183,9 +223,9 @@ pub(crate) fn step(core: &mut Core, by: u16, i: u8) -> Option<u8>
     match next_at(core, i) {
         Next::Local { .. } => None,
         Next::Shared { insn, len } => share(core, i, insn, len),
-        Next::AtStop(stop) => {
-            let rip = core.machine.cpus.at(i as usize).ctx.rip;
-            core.ended = Some(Why::Stopped { cpu: i, stop, rip });
+        Next::Undefined => refuse(core, i),
+        Next::OutOfCode => {
+            stop(core, i, Stop::Fetch);
             None
         }
     }

@@ -2,9 +2,9 @@
 ghost use Rattle.std.specs.Prelude.{◌≡◌};
 ghost use Rattle.vm_machine.specs.Slices as spec;
 
-use crate::effect::run_local;
 use crate::fetching::{Next, next_of};
 use vm_law::Ctx;
+use x86_op::run_local;
 
 /// Runs the next instruction where it is local, and says whether it is.
 #[tactic(auto, unfolding(crate::specs::Slices::stepped, crate::specs::Slices::stands_local))]
@@ -17,7 +17,7 @@ pub(crate) fn step_local(code: &[u8], ctx: &mut Ctx) -> bool
             run_local(ctx, &insn, len);
             true
         }
-        Next::Shared { .. } | Next::AtStop(_) => false,
+        Next::Shared { .. } | Next::Undefined | Next::OutOfCode => false,
     }
 }
 

@@ -1,5 +1,6 @@
 //! What a run consists of.
 
+use guest_ram::GuestRam;
 use vm_law::{CpuSet, Ctx, MeetKind, Order, Owned, Seq, Stop};
 
 /// A virtual processor.
@@ -31,8 +32,8 @@ pub struct Meeting {
 pub struct Machine {
     /// The vCPUs by their numbers, at most 16.
     pub cpus: Seq<Cpu>,
-    /// The code, which stands from address 0 on and never changes.
-    pub code: Seq<u8>,
+    /// Memory, of which the code part never changes.
+    pub ram: GuestRam,
     /// Whether a pause is wished.
     pub pause: bool,
     /// The open rendezvous.

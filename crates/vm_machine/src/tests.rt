@@ -49,12 +49,12 @@ const LAWFUL: [[bool; 9]; 10] = [
 
 fn plan_of(alloc: Global, cpus: u8) -> Plan
     ensures cpus { result.cpus ≡ cpus }
-    ensures memory { result.memory ≡ 268435456 }
+    ensures memory { result.memory ≡ 1048576 }
     ensures disks { result.disks ≡ [] }
 {
     Plan {
         cpus,
-        memory: 268_435_456,
+        memory: 1_048_576,
         name: Text::from_string(String::new(alloc)),
         image: None,
         script: None,
@@ -177,7 +177,7 @@ fn each_entry_has_its_place(rt: HostRuntime) -> Result<(), Fail> {
     let cpu = run.cpu(0);
     assert_eq!(rt; (cpu.ctx.rip, cpu.ctx.regs[0], cpu.halted), (9, 0x41, true));
     assert_eq!(rt; (run.eager(0), run.ran(0), run.left(0)), (false, 4, 0));
-    assert_eq!(rt; run.machine().code.as_slice(), ONE_BYTE.as_slice());
+    assert_eq!(rt; run.machine().ram.code_part(), ONE_BYTE.as_slice());
     Ok(())
 }
 
@@ -381,7 +381,7 @@ fn run_single(alloc: Global, code: &[u8]) -> Result<Run, OutOfMemory>
 }
 
 /// Code, a register, its value at HLT, and where RIP stands behind it.
-static EFFECTS: [(&[u8], usize, u64, u64); 9] = [
+static EFFECTS: [(&[u8], usize, u64, u64); 13] = [
     (&[0xB8, 0xFF, 0xFF, 0xFF, 0xFF, 0xF4], 0, 0xFFFF_FFFF, 6),
     (&[0xB9, 1, 2, 3, 4, 0xB1, 0xAA, 0xF4], 1, 0x0403_02AA, 8),
     (&[0xBA, 1, 2, 3, 4, 0xB6, 0xBB, 0xF4], 2, 0x0403_BB01, 8),
@@ -391,6 +391,20 @@ static EFFECTS: [(&[u8], usize, u64, u64); 9] = [
     (&[0xBF, 0x78, 0x56, 0x34, 0x92, 0xF4], 7, 0x9234_5678, 6),
     (&[0xEB, 2, 0xB0, 1, 0xF4], 0, 0, 5),
     (&[0xEB, 3, 0xB0, 1, 0xF4, 0xEB, 0xFB], 0, 1, 5),
+    // IN EAX, 0x60: all ones; IN AL, DX too
+    (&[0xE5, 0x60, 0xF4], 0, 0xFFFF_FFFF, 3),
+    (&[0xEC, 0xF4], 0, 0xFF, 2),
+    // MOV EBX, 0xFEE00020; MOV ECX, 7; MOV [RBX], ECX; MOV ECX, [RBX]: a device's window gives 0
+    (
+        &[
+            0xBB, 0x20, 0, 0xE0, 0xFE, 0xB9, 7, 0, 0, 0, 0x89, 0x0B, 0x8B, 0x0B, 0xF4,
+        ],
+        1,
+        0,
+        15,
+    ),
+    // MOV ESP, 0x1000; PUSH 5; POP RDI
+    (&[0xBC, 0, 0x10, 0, 0, 0x6A, 5, 0x5F, 0xF4], 7, 5, 9),
 ];
 
 fn has_effect(run: &Run, register: usize, value: u64, rip: u64) -> bool
@@ -413,15 +427,37 @@ fn instructions_do_what_they_are_to(rt: HostRuntime) -> Result<(), Fail> {
 }
 
 /// Code, its stop, where that is, and how many instructions stand before it.
-static STOPS: [(&[u8], Stop, u64, u64); 8] = [
-    (&[0x0F, 0x0B], Stop::NotBuilt, 0, 0),
-    (&[0x0F, 0x05], Stop::NotBuilt, 0, 0),
-    (&[0x90], Stop::NotBuilt, 0, 0),
+static STOPS: [(&[u8], Stop, u64, u64); 18] = [
+    // UD2, and bytes that are no instruction: #UD, without an IDT
+    (&[0x0F, 0x0B], Stop::Gate(6), 0, 0),
+    (&[0x0F, 0x05], Stop::Gate(6), 0, 0),
+    (&[0x90, 0x0F, 0x0B], Stop::Gate(6), 1, 1),
     (&[0xBA, 0xF8, 0x03], Stop::Fetch, 0, 0),
     (&[0xB0, 0x41], Stop::Fetch, 2, 1),
     (&[0xEB, 0x10], Stop::Fetch, 18, 1),
     (&[0xEB, 0xFD], Stop::Fetch, 0xFFFF_FFFF_FFFF_FFFF, 1),
     (&[0xB0, 0x41, 0xEE, 0x48, 0xB8], Stop::Fetch, 3, 2),
+    // DIV EAX of 0, INT3, INT 0x80
+    (&[0xF7, 0xF0], Stop::Gate(0), 0, 0),
+    (&[0xCC], Stop::Gate(3), 0, 0),
+    (&[0xCD, 0x80], Stop::Gate(0x80), 0, 0),
+    // MOV BYTE [0x100000], 1: the first byte behind memory; MOV BYTE [0], 1: code
+    (&[0xC6, 0x04, 0x25, 0, 0, 0x10, 0, 1], Stop::Memory, 0, 0),
+    (&[0xC6, 0x04, 0x25, 0, 0, 0, 0, 1], Stop::CodeWrite, 0, 0),
+    // ADD BYTE [0], 0 stores too, CMP BYTE [0], 0 doesn't
+    (&[0x80, 0x04, 0x25, 0, 0, 0, 0, 0], Stop::CodeWrite, 0, 0),
+    (&[0x80, 0x3C, 0x25, 0, 0, 0, 0, 0], Stop::Fetch, 8, 1),
+    // MOV EAX, 0xFEE00020; MOV BYTE [RAX], 1
+    (&[0xB8, 0x20, 0, 0xE0, 0xFE, 0xC6, 0, 1], Stop::Device, 5, 1),
+    // MOV RAX, 0x8000000000000000; MOV BYTE [RAX], 1: #GP
+    (
+        &[0x48, 0xB8, 0, 0, 0, 0, 0, 0, 0, 0x80, 0xC6, 0, 1],
+        Stop::Gate(13),
+        10,
+        1,
+    ),
+    // PUSH RAX where RSP is 0
+    (&[0x50], Stop::Memory, 0, 0),
 ];
 
 #[test]
@@ -448,7 +484,7 @@ fn a_slice_can_be_put(rt: HostRuntime) -> Result<(), Fail> {
     let before = run.cpu(0).ctx;
     assert!(rt; all_local(&ONE_BYTE, &before, 2) && !all_local(&ONE_BYTE, &before, 3));
     let mut ctx = before;
-    let n = run_slice(run.machine().code.as_slice(), &mut ctx, run.left(0));
+    let n = run_slice(run.machine().ram.code_part(), &mut ctx, run.left(0));
     assert_eq!(rt; (n, ctx.rip, ctx.regs[2]), (2, 7, 0x3F8));
     let lawful = run.may(1, &Entry::Slice { cpu: 0, n });
     assert!(rt; lawful);

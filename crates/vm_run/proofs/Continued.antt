@@ -14,7 +14,7 @@ use Rattle.vm_machine.specs.History.{after_all, is_lawful_all, IsLegal, last_sta
 use Rattle.vm_machine.specs.Turns.{list_of, first_lawful}
 use Rattle.vm_machine.specs.Rounds.{Rounds, run_outside, chosen, brought_back, after_round, after_runner, rounds_from, first_round, IsSolo}
 use Rattle.vm_law.specs.declared.script.Order.TheVariants.{WaitQuiet}
-use Rattle.vm_law.specs.Image.{code_part}
+use Rattle.guest_ram.specs.GuestRam.{loaded}
 use Rattle.vm_machine.specs.declared.start.Start.{Start}
 use Rattle.vm_machine.specs.declared.state.Why.TheVariants.{Outside}
 use Rattle.vm_machine.specs.Starting.{boot, image_of}
@@ -209,7 +209,7 @@ round_made t u v h k l n m eu ek ev el em =
 -- the first state of a run of one vCPU
 booted : Start → Single
 booted start = record {
-  code = code_part (image_of start.origin);
+  ram = loaded start.plan.memory (image_of start.origin);
   stay = resting;
   ctx = ctx_from (image_of start.origin).entry;
   halted = false;

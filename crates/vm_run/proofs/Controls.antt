@@ -22,7 +22,7 @@ use Rattle.vm_machine.specs.Turns.{is_exit_due, control_list, list_of, first_law
 use Rattle.vm_machine.specs.Rounds.{run_outside, brought_back}
 use Rattle.vm_run.specs.Actors.{by_choice, by_return, IsAway}
 use Rattle.vm_run.specs.declared.actors.Away.{Away}
-use Rattle.vm_run.specs.Single.{Stay, resting, frozen, running, stage_of, Single, core_of, Fits, IsSingle}
+use Rattle.vm_run.specs.Single.{Stay, resting, frozen, running, stage_of, Single, core_of, code_in, Fits, IsSingle}
 use Rattle.vm_run.proofs.Singles.{stage_rank, rank, IsInside, more, as_of, state_of, choice_some, choice_none, Waits, at_rest, on_hold, at_local, Returns, runner_returns, slides, after_slice_core}
 
 abbrev then_core : Single → Entry → Core
@@ -214,27 +214,27 @@ some_local code c (suc n) h =
     ]
 
 -- a runner that works goes out
-outside_works : (x : Single) (left : ℕ) → 0 < left → run_outside (core_of (as_of x running None false left)) 0 ≡ most_local x.code x.ctx left
+outside_works : (x : Single) (left : ℕ) → 0 < left → run_outside (core_of (as_of x running None false left)) 0 ≡ most_local (code_in x) x.ctx left
 unfolding run_outside is_exit_due
 outside_works x left l =
     let z : (left == 0) ≡ false = grind (arith, nat_tests) in
-    ap (λ (b : Bool). if not b then most_local x.code x.ctx left else 0) z
+    ap (λ (b : Bool). if not b then most_local (code_in x) x.ctx left else 0) z
 
 outside_none : (x : Single) (halted : Bool) (left : ℕ) → (halted || (left == 0)) ≡ true → run_outside (core_of (as_of x running None halted left)) 0 ≡ 0
 unfolding run_outside is_exit_due
-outside_none x halted left z = ap (λ (b : Bool). if not b then most_local x.code x.ctx left else 0) z
+outside_none x halted left z = ap (λ (b : Bool). if not b then most_local (code_in x) x.ctx left else 0) z
 
 all_true : (a b c : Bool) → a ≡ true → b ≡ true → c ≡ true → (a && b && true && c) ≡ true
 all_true a b c p q r = rw (p, q, r) refl
 
-may_outside : (x : Single) (left : ℕ) → 0 < left → 0 < most_local x.code x.ctx left → lawful (core_of (as_of x running None false left)) 1 (Slice 0 (most_local x.code x.ctx left)) ≡ true
+may_outside : (x : Single) (left : ℕ) → 0 < left → 0 < most_local (code_in x) x.ctx left → lawful (core_of (as_of x running None false left)) 1 (Slice 0 (most_local (code_in x) x.ctx left)) ≡ true
 unfolding lawful allowed may_slice
 may_outside x left l some =
-    let n = most_local x.code x.ctx left in
-    let at_most = most_at_most x.code x.ctx left in
-    let one : nat_le 1 (most_local x.code x.ctx left) ≡ true = grind (arith, nat_tests) in
-    let most : nat_le (most_local x.code x.ctx left) left ≡ true = grind (arith, nat_tests) in
-    all_true (nat_le 1 (most_local x.code x.ctx left)) (nat_le (most_local x.code x.ctx left) left) (all_local x.code x.ctx (most_local x.code x.ctx left)) one most (most_is_local x.code x.ctx left)
+    let n = most_local (code_in x) x.ctx left in
+    let at_most = most_at_most (code_in x) x.ctx left in
+    let one : nat_le 1 (most_local (code_in x) x.ctx left) ≡ true = grind (arith, nat_tests) in
+    let most : nat_le (most_local (code_in x) x.ctx left) left ≡ true = grind (arith, nat_tests) in
+    all_true (nat_le 1 (most_local (code_in x) x.ctx left)) (nat_le (most_local (code_in x) x.ctx left) left) (all_local (code_in x) x.ctx (most_local (code_in x) x.ctx left)) one most (most_is_local (code_in x) x.ctx left)
 
 outside_at : (x : Single) (stay : Stay) (ended : Option Why) (halted : Bool) → 0 < run_outside (core_of (as_of x stay ended halted x.left)) 0
     → lawful (core_of (as_of x stay ended halted x.left)) 1 (Slice 0 (run_outside (core_of (as_of x stay ended halted x.left)) 0)) ≡ true
@@ -246,9 +246,9 @@ outside_at x running None true l = absurd (omega arith)
 outside_at x running None false l =
     elim (cases_lt 0 x.left) [
       | inl some ↦
-          let e : run_outside (core_of (as_of x running None false x.left)) 0 ≡ most_local x.code x.ctx x.left = outside_works x x.left some in
+          let e : run_outside (core_of (as_of x running None false x.left)) 0 ≡ most_local (code_in x) x.ctx x.left = outside_works x x.left some in
           let P : ℕ → Type 0 = λ n. 0 < n → lawful (core_of (as_of x running None false x.left)) 1 (Slice 0 n) ≡ true in
-          let h : (0 < most_local x.code x.ctx x.left → lawful (core_of (as_of x running None false x.left)) 1 (Slice 0 (most_local x.code x.ctx x.left)) ≡ true) = λ g. may_outside x x.left some g in
+          let h : (0 < most_local (code_in x) x.ctx x.left → lawful (core_of (as_of x running None false x.left)) 1 (Slice 0 (most_local (code_in x) x.ctx x.left)) ≡ true) = λ g. may_outside x x.left some g in
           subst P (sym e) h l
       | inr none ↦
           let z : (x.left == 0) ≡ true = grind (arith, nat_tests) in
@@ -266,12 +266,12 @@ none_some : (o : Option Why) → o ≡ None → is_some o ≡ true → ⊥
 none_some None e h = absurd (cc)
 none_some (Some w) e h = absurd (cc)
 
-local_outside : (x : Single) (left : ℕ) → 0 < left → is_local_next (next_of x.code x.ctx) ≡ true → run_outside (core_of (as_of x running None false left)) 0 ≡ 0 → ⊥
+local_outside : (x : Single) (left : ℕ) → 0 < left → is_local_next (next_of (code_in x) x.ctx) ≡ true → run_outside (core_of (as_of x running None false left)) 0 ≡ 0 → ⊥
 unfolding stands_local
 local_outside x zero l local out = omega arith
 local_outside x (suc m) l local out =
     let e = outside_works x (suc m) l in
-    let some = some_local x.code x.ctx m local in
+    let some = some_local (code_in x) x.ctx m local in
     omega arith
 
 -- control or the runner has something to do

@@ -7,20 +7,24 @@ use Rattle.vm_law.specs.declared.journal.Signed.{Signed}
 use Rattle.vm_machine.specs.declared.state.Core.{Core}
 use Rattle.vm_machine.specs.declared.state.Why.{Why}
 use Rattle.vm_machine.specs.declared.start.Start.{Start}
-use Rattle.vm_machine.specs.declared.fetching.Next.{Next}
-use Rattle.vm_machine.specs.declared.fetching.Next.TheVariants.{Local, Shared, AtStop}
+use Rattle.vm_law.specs.declared.context.Stop.{Stop}
+use Rattle.vm_machine.specs.State.{cpu_at}
+use Rattle.vm_machine.specs.Stepping.{Outcome}
 use Rattle.vm_machine.specs.Owners.{after_claim, after_exit, after_yield}
-use Rattle.vm_machine.specs.Running.{after_enter, after_slice, after_step, stepped_at, spent, next_at}
+use Rattle.vm_machine.specs.Running.{after_enter, after_slice, after_step, outcome_of, settled_by, settled, spent, next_at}
 use Rattle.vm_machine.specs.Control.{after_done, after_end, after_close, may_close}
 use Rattle.vm_machine.specs.Table.{State, allowed, lawful, effect, counted, after}
 use Rattle.vm_machine.specs.Starting.{boot}
 use Rattle.vm_machine.specs.History.{after_all, is_lawful_all, IsLegal, is_closed, why_ended}
 
-stepped_stays : (s : Core) (i : ℕ) (next : Next) → (stepped_at s i next).closed ≡ s.closed
-unfolding stepped_at spent
-stepped_stays s i (Local insn len) = refl
-stepped_stays s i (Shared insn len) = refl
-stepped_stays s i (AtStop why) = refl
+settled_stays : (s : Core) (i : ℕ) (o : Outcome) (stop : Option Stop) → (settled_by s i o stop).closed ≡ s.closed
+unfolding settled_by spent
+settled_stays s i o None = refl
+settled_stays s i o (Some why) = refl
+
+stepped_stays : (s : Core) (i : ℕ) (o : Option Outcome) → (settled s i o).closed ≡ s.closed
+stepped_stays s i None = refl
+stepped_stays s i (Some o) = settled_stays s i o o.stop
 
 -- an entry that closes is the Close of a run that has ended
 closes : (s : Core) (p : ℕ) (e : Entry) → allowed s p e ≡ true → (effect s p e).closed ≡ true → (s.closed ≡ true) ⊎ (is_some (effect s p e).ended ≡ true)
@@ -29,7 +33,7 @@ closes s p Close a h = inr (and_parts _ _ (and_parts _ _ (and_parts _ _ a).0).0)
 closes s p (Claim i) a h = inl h
 closes s p (Enter i grant) a h = inl h
 closes s p (Slice i n) a h = inl h
-closes s p (Step i) a h = inl (sym (stepped_stays s i (next_at s i)) ∙ h)
+closes s p (Step i) a h = inl (sym (stepped_stays s i (outcome_of (cpu_at s i).ctx s.machine.ram (next_at s i))) ∙ h)
 closes s p (Exit i) a h = inl h
 closes s p (Yield i) a h = inl h
 closes s p (Done k) a h = inl h

@@ -15,19 +15,21 @@ use Rattle.vm_machine.specs.declared.state.Why.{Why}
 use Rattle.vm_machine.specs.declared.state.Why.TheVariants.{Stopped, Finished}
 use Rattle.vm_machine.specs.declared.state.Why.TheVariants as why
 use Rattle.vm_machine.specs.declared.fetching.Next.{Next}
-use Rattle.vm_machine.specs.declared.fetching.Next.TheVariants.{Local, Shared, AtStop}
-use Rattle.vm_machine.specs.Effect.{after_insn, is_halt}
+use Rattle.vm_machine.specs.declared.fetching.Next.TheVariants.{Local, Shared, Undefined, OutOfCode}
+use Rattle.vm_law.specs.declared.context.Stop.{Stop}
+use Rattle.vm_law.specs.declared.context.Stop.TheVariants.{Fetch}
+use Rattle.vm_machine.specs.Stepping.{Outcome, performed, undefined, stopped}
 use Rattle.vm_machine.specs.Fetching.{next_of, is_local_next}
 use Rattle.vm_machine.specs.Slices.{stepped_by}
 use Rattle.vm_machine.specs.State.{cpu_at, seat_at}
 use Rattle.vm_machine.specs.Owners.{may_claim, after_claim, may_exit, after_exit, may_yield, after_yield}
-use Rattle.vm_machine.specs.Running.{open_grants, may_enter, after_enter, spent, may_slice, after_slice, may_step, stepped_at, after_step}
+use Rattle.vm_machine.specs.Running.{open_grants, may_enter, after_enter, spent, may_slice, after_slice, may_step, outcome_of, settled_by, settled, after_step}
 use Rattle.vm_machine.specs.Table.{State, allowed, lawful, effect, counted, after}
 use Rattle.vm_machine.specs.History.{after_all}
 use Rattle.vm_machine.specs.Turns.{is_exit_due, grant_of, runner_list, list_of, first_lawful}
 use Rattle.vm_machine.specs.Rounds.{brought_back}
 use Rattle.vm_run.specs.Actors.{by_choice, by_return}
-use Rattle.vm_run.specs.Single.{Stay, resting, frozen, running, Single, core_of, Fits}
+use Rattle.vm_run.specs.Single.{Stay, resting, frozen, running, Single, core_of, code_in, Fits}
 
 -- how far a run is from its end: no more than so many entries follow, where each does what it can
 abbrev pub stage_rank : Owned → ℕ
@@ -85,19 +87,19 @@ rests_ended : (x : Single) (w : Why) (halted : Bool) (left : ℕ) → first_lawf
 unfolding lawful allowed list_of runner_list may_claim may_yield may_enter may_exit may_step is_exit_due
 rests_ended x w halted left = refl
 
-steps_from : (x : Single) (left : ℕ) → (left == 0) ≡ false → nat_lt 0 left ≡ true → first_lawful (core_of (as_of x running None false left)) 1 ≡ cond (not (is_local_next (next_of x.code x.ctx)) && true) (Some (Step 0)) None
+steps_from : (x : Single) (left : ℕ) → (left == 0) ≡ false → nat_lt 0 left ≡ true → first_lawful (core_of (as_of x running None false left)) 1 ≡ cond (not (is_local_next (next_of (code_in x) x.ctx)) && true) (Some (Step 0)) None
 unfolding lawful allowed list_of runner_list may_claim may_yield may_enter may_exit may_step is_exit_due
 steps_from x left z p =
     ap (λ (b : Bool). find (λ (e : Entry). lawful (core_of (as_of x running None false left)) 1 e) (cond b (Exit 0 ∷ []) [] ++ Step 0 ∷ [])) z
-    ∙ ap (λ (b : Bool). cond (b && true && true && not (is_local_next (next_of x.code x.ctx)) && true) (Some (Step 0)) None) p
+    ∙ ap (λ (b : Bool). cond (b && true && true && not (is_local_next (next_of (code_in x) x.ctx)) && true) (Some (Step 0)) None) p
 
-steps : (x : Single) (left : ℕ) → 0 < left → is_local_next (next_of x.code x.ctx) ≡ false → first_lawful (core_of (as_of x running None false left)) 1 ≡ Some (Step 0)
+steps : (x : Single) (left : ℕ) → 0 < left → is_local_next (next_of (code_in x) x.ctx) ≡ false → first_lawful (core_of (as_of x running None false left)) 1 ≡ Some (Step 0)
 steps x left l local =
     let z : (left == 0) ≡ false = grind (arith, nat_tests) in
     let p : nat_lt 0 left ≡ true = grind (arith, nat_tests) in
     steps_from x left z p ∙ ap (λ (b : Bool). cond (not b && true) (Some (Step 0)) None) local
 
-steps_not : (x : Single) (left : ℕ) → 0 < left → is_local_next (next_of x.code x.ctx) ≡ true → first_lawful (core_of (as_of x running None false left)) 1 ≡ None
+steps_not : (x : Single) (left : ℕ) → 0 < left → is_local_next (next_of (code_in x) x.ctx) ≡ true → first_lawful (core_of (as_of x running None false left)) 1 ≡ None
 steps_not x left l local =
     let z : (left == 0) ≡ false = grind (arith, nat_tests) in
     let p : nat_lt 0 left ≡ true = grind (arith, nat_tests) in
@@ -212,24 +214,24 @@ enter_goes x f room =
       less = rw z (omega arith);
     }
 
-step_goes : (x : Single) (left : ℕ) (next : Next) → Fits (as_of x running None false left) → 0 < left → is_local_next next ≡ false → Goes (as_of x running None false left) (counted (stepped_at (core_of (as_of x running None false left)) 0 next))
-unfolding counted stepped_at spent
-step_goes x left (Local insn len) f l local = absurd (cc)
-step_goes x left (Shared insn len) f l local =
+-- what an instruction did, or why it couldn't be done
+settled_goes : (x : Single) (left : ℕ) (o : Outcome) (stop : Option Stop) → Fits (as_of x running None false left) → 0 < left → Goes (as_of x running None false left) (counted (settled_by (core_of (as_of x running None false left)) 0 o stop))
+unfolding counted settled_by spent
+settled_goes x left o None f l =
     let within = f.within in
     let z : (left == 0) ≡ false = grind (arith, nat_tests) in
     record {
-      to = more (record (as_of x running None (is_halt insn.op) (left - 1)) { ctx = after_insn x.ctx insn len; stayed = true; ran = x.ran + 1; executed = x.executed + 1 });
+      to = more (record (as_of x running None o.halted (left - 1)) { ctx = o.ctx; ram = o.memory; stayed = true; ran = x.ran + 1; executed = x.executed + 1 });
       is = refl;
       fits = record { holds = ((λ none. refl), (λ h. refl)); first = f.first; within = omega arith };
       going = refl;
       over = λ h. h;
       inside = λ h. h;
       less =
-          let part : work_rank (Running 1) (is_halt insn.op || (left - 1 == 0)) ≤ 3 = work_at_most (is_halt insn.op || (left - 1 == 0)) in
+          let part : work_rank (Running 1) (o.halted || (left - 1 == 0)) ≤ 3 = work_at_most (o.halted || (left - 1 == 0)) in
           rw z (omega arith);
     }
-step_goes x left (AtStop stop) f l local = record {
+settled_goes x left o (Some stop) f l = record {
   to = more (as_of x running (Some (Stopped 0 stop x.ctx.rip)) false left);
   is = refl;
   fits = record { holds = f.holds; first = λ e. absurd (cc); within = f.within };
@@ -239,9 +241,16 @@ step_goes x left (AtStop stop) f l local = record {
   less = omega arith;
 }
 
-step_goes_by : (x : Single) (left : ℕ) → Fits (as_of x running None false left) → 0 < left → is_local_next (next_of x.code x.ctx) ≡ false → Goes (as_of x running None false left) (then_core (as_of x running None false left) (Step 0))
+step_goes : (x : Single) (left : ℕ) (next : Next) → Fits (as_of x running None false left) → 0 < left → is_local_next next ≡ false → Goes (as_of x running None false left) (counted (settled (core_of (as_of x running None false left)) 0 (outcome_of x.ctx x.ram next)))
+unfolding outcome_of
+step_goes x left (Local insn len) f l local = absurd (cc)
+step_goes x left (Shared insn len) f l local = let o = performed x.ctx insn len x.ram in settled_goes x left o o.stop f l
+step_goes x left Undefined f l local = let o = undefined x.ctx x.ram in settled_goes x left o o.stop f l
+step_goes x left OutOfCode f l local = settled_goes x left (stopped x.ctx x.ram Fetch) (Some Fetch) f l
+
+step_goes_by : (x : Single) (left : ℕ) → Fits (as_of x running None false left) → 0 < left → is_local_next (next_of (code_in x) x.ctx) ≡ false → Goes (as_of x running None false left) (then_core (as_of x running None false left) (Step 0))
 unfolding effect after_step
-step_goes_by x left f l shared = step_goes x left (next_of x.code x.ctx) f l shared
+step_goes_by x left f l shared = step_goes x left (next_of (code_in x) x.ctx) f l shared
 
 abbrev pub signed : ℕ → Entry → Signed
 signed p e = record { by = p; entry = e }
@@ -250,7 +259,7 @@ signed p e = record { by = p; entry = e }
 pub data Waits (x : Single) : Type 0 where
   at_rest : x.stay ≡ resting → is_some x.ended ≡ true → Waits x
   on_hold : x.stay ≡ frozen → x.ended ≡ None → (x.halted ≡ true) ⊎ (x.executed ≡ x.limit) → Waits x
-  at_local : x.stay ≡ running → x.ended ≡ None → x.halted ≡ false → 0 < x.left → is_local_next (next_of x.code x.ctx) ≡ true → Waits x
+  at_local : x.stay ≡ running → x.ended ≡ None → x.halted ≡ false → 0 < x.left → is_local_next (next_of (code_in x) x.ctx) ≡ true → Waits x
 
 abbrev pub Moves : Single → Core → Type 0
 Moves x s = Goes x s ⊎ ((s ≡ core_of x) × Waits x)
@@ -284,7 +293,7 @@ runner_frozen x c false f =
 
 runner_working : (x : Single) (c : List ℕ) (left : ℕ) → 0 < left → Fits (as_of x running None false left) → Moves (as_of x running None false left) (by_choice (state_of (as_of x running None false left) c) 1).core
 runner_working x c left l f =
-    elim (cases_Bool (is_local_next (next_of x.code x.ctx))) [
+    elim (cases_Bool (is_local_next (next_of (code_in x) x.ctx))) [
       | inl local ↦ waits_by (as_of x running None false left) c (steps_not x left l local) (at_local refl refl refl l local)
       | inr shared ↦ goes_by (as_of x running None false left) c (Step 0) (steps x left l shared) (step_goes_by x left f l shared)
     ]
@@ -351,7 +360,7 @@ pub record Slides (x : Single) (s : Core) : Type 0 where
   pub less : x.ended ≡ None → rank (core_of to) < rank (core_of x)
 
 slid : Single → ℕ → Single
-slid x n = more (record x { ctx = stepped_by x.code x.ctx n; left = x.left - n; stayed = true; ran = x.ran + n; executed = x.executed + n })
+slid x n = more (record x { ctx = stepped_by (code_in x) x.ctx n; left = x.left - n; stayed = true; ran = x.ran + n; executed = x.executed + n })
 
 slide_at : (x : Single) (ended : Option Why) (n : ℕ) → 1 ≤ n → n ≤ x.left → Fits (as_of x running ended false x.left) → Slides (as_of x running ended false x.left) (then_core (as_of x running ended false x.left) (Slice 0 n))
 unfolding counted effect after_slice spent slid

@@ -1,5 +1,6 @@
 -- A machine of one vCPU, which was started, under a script that waits until nothing more can happen by itself.
 use Rattle.std.specs.Prelude.{◌≡◌, ℕ, ◌+◌, ◌≤◌, Bool, true, false, List, [], ◌∷◌, Option, None}
+use Rattle.vm_law.specs.Memory.{Memory, code_of}
 use Rattle.vm_law.specs.declared.context.Ctx.{Ctx}
 use Rattle.vm_law.specs.declared.script.Order.TheVariants.{WaitQuiet}
 use Rattle.vm_law.specs.declared.stage.Owned.{Owned}
@@ -20,7 +21,7 @@ stage_of running = Running 1
 
 -- what such a run consists of
 pub record Single : Type 0 where
-  pub code : List ℕ
+  pub ram : Memory
   pub stay : Stay
   pub ctx : Ctx
   pub halted : Bool
@@ -34,12 +35,16 @@ pub record Single : Type 0 where
   pub ended : Option Why
   pub closed : Bool
 
+-- the code part of its memory
+abbrev pub code_in : Single → List ℕ
+code_in x = code_of x.ram
+
 -- the run: no pause is wished, and no rendezvous is open
 abbrev pub core_of : Single → Core
 core_of x = record {
   machine = record {
     cpus = record { stage = stage_of x.stay; ctx = x.ctx; started = true; halted = x.halted } ∷ [];
-    code = x.code;
+    ram = x.ram;
     pause = false;
     meet = None;
   };

@@ -189,7 +189,7 @@ impl Playing {
         let mut ctx = cpu.ctx;
         let leases = cpu.stage == Owned::Running(1) && !self.is_exit_due();
         let most = if leases { self.run.left(0) } else { 0 };
-        let count = run_slice(self.run.machine().code.as_slice(), &mut ctx, most);
+        let count = run_slice(self.run.machine().ram.code_part(), &mut ctx, most);
         Away { count, ctx }
     }
     /// The runner's turn, and then its work outside: what it ran outside before comes back, and it adds what it chooses.

@@ -1,0 +1,145 @@
+//! One instruction that isn't local.
+ghost use Rattle.std.specs.Prelude.{◌≡◌, IsSome};
+ghost use Rattle.vm_machine.specs.Stepping as spec;
+
+use guest_ram::GuestRam;
+use vm_law::{Ctx, Insn, Op, Stop, Width};
+use x86_exec::{Effect, complete, run_shared};
+use x86_trap::deliver;
+
+/// The data port of the first serial port.
+const CONSOLE_PORT: u16 = 0x3F8;
+
+/// What a port gives that no device is behind.
+const ALL_ONES: u32 = 0xFFFF_FFFF;
+
+/// The vector of #UD.
+const INVALID_OPCODE: u8 = 6;
+
+/// What an instruction did besides to registers and memory.
+#[derive(Clone, Copy)]
+pub(crate) struct Performed {
+    /// Whether it halted its vCPU.
+    pub halted: bool,
+    /// The byte that it gave to the console.
+    pub output: Option<u8>,
+    /// Why it couldn't be done; registers and memory are as they were then.
+    pub stop: Option<Stop>,
+}
+
+/// Nothing besides.
+const PLAIN: Performed = Performed {
+    halted: false,
+    output: None,
+    stop: None,
+};
+
+fn is_byte(width: Width) -> bool
+    ensures { result ≡ spec.is_byte width }
+{
+    match width {
+        Width::B => true,
+        _ => false,
+    }
+}
+
+/// The byte for the console in what was written to a port.
+#[tactic(auto, unfolding(crate::specs::Stepping::port_output))]
+fn port_output(port: u16, width: Width, value: u32) -> Option<u8>
+    ensures { result ≡ spec.port_output port width value }
+{
+    if port == CONSOLE_PORT && is_byte(width) {
+        Some((value % 256) as u8)
+    } else {
+        None
+    }
+}
+
+/// The RIP that a trap of this instruction pushes.
+#[tactic(auto, unfolding(crate::specs::Stepping::pushed_rip))]
+fn pushed_rip(ctx: &Ctx, op: Op, len: u8) -> u64
+    ensures { result ≡ spec.pushed_rip ctx.now op len }
+{
+    match op {
+        Op::Int(_) => ctx.rip.wrapping_add(u64::from(len)),
+        _ => ctx.rip,
+    }
+}
+
+/// Delivers an exception or a software interrupt, which pushes this RIP.
+#[tactic(auto, unfolding(crate::specs::Stepping::trapped))]
+fn trap(ctx: &mut Ctx, ram: &mut GuestRam, rip: u64, vector: u8, error: Option<u64>) -> Option<Stop>
+    ensures ctx { ctx.new ≡ (spec.trapped ctx.old rip ram.old vector error).ctx }
+    ensures memory { ram.new ≡ (spec.trapped ctx.old rip ram.old vector error).memory }
+    ensures stop { result ≡ (spec.trapped ctx.old rip ram.old vector error).stop }
+    ensures kept { IsSome result → ram.new ≡ ram.old }
+{
+    let before = ctx.rip;
+    ctx.rip = rip;
+    match deliver(ctx, ram, vector, error, false) {
+        Ok(()) => None,
+        Err(stop) => {
+            ctx.rip = before;
+            Some(stop)
+        }
+    }
+}
+
+/// Bytes that no instruction spells.
+#[tactic(auto, unfolding(crate::specs::Stepping::undefined, crate::specs::Stepping::trapped))]
+pub(crate) fn undefined(ctx: &mut Ctx, ram: &mut GuestRam) -> Performed
+    ensures ctx { ctx.new ≡ (spec.undefined ctx.old ram.old).ctx }
+    ensures memory { ram.new ≡ (spec.undefined ctx.old ram.old).memory }
+    ensures halted { result.halted ≡ (spec.undefined ctx.old ram.old).halted }
+    ensures output { result.output ≡ (spec.undefined ctx.old ram.old).output }
+    ensures stop { result.stop ≡ (spec.undefined ctx.old ram.old).stop }
+    ensures kept { IsSome result.stop → ram.new ≡ ram.old }
+{
+    let rip = ctx.rip;
+    Performed {
+        stop: trap(ctx, ram, rip, INVALID_OPCODE, None),
+        ..PLAIN
+    }
+}
+
+/// One instruction of `len` bytes.
+#[tactic(auto, unfolding(crate::specs::Stepping::performed, crate::specs::Stepping::performed_as))]
+pub(crate) fn perform(ctx: &mut Ctx, ram: &mut GuestRam, insn: &Insn, len: u8) -> Performed
+    ensures ctx { ctx.new ≡ (spec.performed ctx.old insn.now len ram.old).ctx }
+    ensures memory { ram.new ≡ (spec.performed ctx.old insn.now len ram.old).memory }
+    ensures halted { result.halted ≡ (spec.performed ctx.old insn.now len ram.old).halted }
+    ensures output { result.output ≡ (spec.performed ctx.old insn.now len ram.old).output }
+    ensures stop { result.stop ≡ (spec.performed ctx.old insn.now len ram.old).stop }
+    ensures kept { IsSome result.stop → ram.new ≡ ram.old }
+{
+    match run_shared(ctx, insn, len, ram) {
+        Effect::Done | Effect::Store { .. } => PLAIN,
+        Effect::Halt => Performed {
+            halted: true,
+            ..PLAIN
+        },
+        Effect::Trap { vector, error } => {
+            let rip = pushed_rip(ctx, insn.op, len);
+            Performed {
+                stop: trap(ctx, ram, rip, vector, error),
+                ..PLAIN
+            }
+        }
+        Effect::Stop(stop) => Performed {
+            stop: Some(stop),
+            ..PLAIN
+        },
+        Effect::PortIn { .. } => {
+            complete(ctx, insn, len, ALL_ONES);
+            PLAIN
+        }
+        Effect::PortOut { port, width, value } => Performed {
+            output: port_output(port, width, value),
+            ..PLAIN
+        },
+        Effect::Load { .. } => {
+            complete(ctx, insn, len, 0);
+            PLAIN
+        }
+    }
+}
