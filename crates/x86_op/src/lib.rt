@@ -1,0 +1,6 @@
+//! What each instruction computes: registers, flags, and the value for an operand in memory.
+#![tactic(auto)]
+
+mod access;
+
+pub use access::{Access, Way};
