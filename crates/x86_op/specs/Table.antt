@@ -14,7 +14,7 @@ use Rattle.x86_alu.specs.Flags.{carry_of}
 use Rattle.x86_op.specs.Operand.{value_at, source_at, passed}
 use Rattle.x86_op.specs.Done.{Done, only}
 use Rattle.x86_op.specs.Arithmetic.{alu_done, operated, compared, unary_done, unary_faults, imul2_done, imul3_done}
-use Rattle.x86_op.specs.Moves.{mov_done, movzx_done, movsx_done, lea_done, xchg_done, cmpxchg_done, xadd_done, bswap_done, setcc_done, cmov_done, widen_done, sign_fill_done}
+use Rattle.x86_op.specs.Moves.{mov_done, movzx_done, movsx_done, lea_done, xchg_done, cmpxchg_done, xadd_done, bswap_done, is_equal, setcc_done, cmov_done, widen_done, sign_fill_done}
 use Rattle.x86_op.specs.Bits.{shift_done, bit_done, scan_done}
 use Rattle.x86_op.specs.Flow.{jumped, jumped_to, jcc_done, push_done, pop_done, call_done, call_register_done, ret_done, leave_done, pushf_done, popf_done, carry_done, direction_done, sti_done, cli_done}
 
@@ -79,3 +79,11 @@ computed c insn len m = done_op (passed c len) insn.width insn.op m
 
 abbrev pub faults : Ctx → Insn → ℕ → Bool
 faults c insn m = op_faults c insn.width insn.op m
+
+-- CMPXCHG's destination holds what the accumulator holds, so that it is written
+unfoldable pub matches_op : Ctx → Width → Op → ℕ → Bool
+matches_op c w (op.CmpXchg a b) m = is_equal c w m a
+matches_op c w o m = false
+
+abbrev pub matches_accumulator : Ctx → Insn → ℕ → Bool
+matches_accumulator c insn m = matches_op c insn.width insn.op m
