@@ -2,5 +2,7 @@
 #![tactic(auto)]
 
 mod access;
+mod condition;
+mod flags;
 
 pub use access::{Access, Way};
