@@ -2,5 +2,7 @@
 #![tactic(auto)]
 
 mod access;
+mod address;
+mod operand;
 
 pub use access::{Access, Way};
