@@ -1,6 +1,6 @@
 -- ADD to CMP, TEST, NOT, NEG, INC, DEC, MUL, IMUL, DIV, IDIV. c is the context behind the instruction.
 -- Source: Intel SDM volume 2, the pages of the instructions.
-use Rattle.std.specs.Prelude.{ℕ, ◌%◌, ◌/◌, ℤ, Bool, true, false, ◌&&◌, ◌||◌, ◌==◌, if◌then◌else◌}
+use Rattle.std.specs.Prelude.{ℕ, ◌%◌, ◌/◌, ℤ, Bool, true, false, ◌&&◌, ◌==◌, if◌then◌else◌}
 use Rattle.vm_law.specs.declared.context.Ctx.{Ctx}
 use Rattle.vm_law.specs.declared.insn.Width.{Width}
 use Rattle.vm_law.specs.declared.insn.Loc.{Loc}

@@ -3,15 +3,12 @@
 use Rattle.std.specs.Prelude.{ℕ, ◌+◌, ◌%◌, ◌^◌, ℤ, Bool, true, false, not, bit_and, bit_or, if◌then◌else◌}
 use Rattle.std.specs.Int.{w64, cast_unsigned}
 use Rattle.vm_law.specs.declared.context.Ctx.{Ctx}
-use Rattle.vm_law.specs.declared.insn.Width.{Width}
 use Rattle.vm_law.specs.declared.insn.Width.TheVariants as width
-use Rattle.vm_law.specs.declared.insn.Loc.{Loc}
-use Rattle.vm_law.specs.declared.insn.Loc.TheVariants as loc
 use Rattle.vm_law.specs.declared.insn.Src.{Src}
-use Rattle.x86_alu.specs.Flags.{is_set, with_bit, carry_of}
-use Rattle.x86_op.specs.Operand.{register, with_register, value_at, source_at}
+use Rattle.x86_alu.specs.Flags.{is_set, with_bit}
+use Rattle.x86_op.specs.Operand.{register, with_register, source_at}
 use Rattle.x86_op.specs.Condition.{holds}
-use Rattle.x86_op.specs.Done.{Done, flagged, only}
+use Rattle.x86_op.specs.Done.{Done, flagged}
 
 unfoldable pub jumped_to : Ctx → ℕ → Ctx
 jumped_to c rip = record c { rip = rip }

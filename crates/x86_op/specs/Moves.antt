@@ -12,11 +12,10 @@ use Rattle.vm_law.specs.declared.insn.Mem.{Mem}
 use Rattle.x86_alu.specs.Operand.{size_of, span, signed, residue, is_negative}
 use Rattle.x86_alu.specs.Flags.{bit}
 use Rattle.x86_alu.specs.declared.op.AluOp.TheVariants as alu
-use Rattle.x86_alu.specs.Arithmetic.{alu_result, alu_flags}
 use Rattle.x86_op.specs.Operand.{value_at, source_at, with_value}
 use Rattle.x86_op.specs.Address.{address_of}
 use Rattle.x86_op.specs.Condition.{holds}
-use Rattle.x86_op.specs.Done.{Done, flagged, only}
+use Rattle.x86_op.specs.Done.{Done}
 use Rattle.x86_op.specs.Arithmetic.{compared, operated}
 
 unfoldable pub mov_done : Ctx → Width → ℕ → Loc → Src → Done

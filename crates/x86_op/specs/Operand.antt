@@ -47,7 +47,7 @@ source_at c w m (src.Imm value) = immediate w value
 -- the context after a result for a register. One for memory is stored by the caller
 unfoldable pub with_value : Ctx → Width → Loc → ℕ → Ctx
 with_value c w (loc.Reg r) value = with_register c r (merged w (register c r) value)
-with_value c w (loc.High r) value = with_register c r (with_second (register c r) value)
+with_value c w (loc.High r) value = with_register c r (with_second (register c r) (value % 2 ^ 8))
 with_value c w (loc.Mem a) value = c
 
 -- rDX and rAX, at width 8 AH and AL: the upper half of a double operand, and its lower half

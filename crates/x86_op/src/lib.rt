@@ -2,5 +2,9 @@
 #![tactic(auto)]
 
 mod access;
+mod address;
+mod condition;
+mod flags;
+mod operand;
 
 pub use access::{Access, Way};
