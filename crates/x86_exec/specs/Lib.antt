@@ -1,2 +1,3 @@
+pub mod Length
 pub mod Reached
 pub mod Shared
