@@ -5,6 +5,7 @@ mod access;
 mod address;
 mod condition;
 mod flags;
+mod flow;
 mod operand;
 
 pub use access::{Access, Way};
