@@ -3,6 +3,7 @@
 
 mod access;
 mod address;
+mod arithmetic;
 mod operand;
 
 pub use access::{Access, Way};
