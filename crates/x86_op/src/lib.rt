@@ -4,6 +4,7 @@
 mod access;
 mod address;
 mod arithmetic;
+mod bits;
 mod operand;
 
 pub use access::{Access, Way};
