@@ -3,6 +3,8 @@
 
 mod access;
 mod address;
+mod arithmetic;
+mod bits;
 mod condition;
 mod flags;
 mod flow;
