@@ -35,7 +35,7 @@ fn address_from(ctx: &Ctx, next: u64, mem: &Mem) -> u64
 /// The address of an operand, modulo 2^64. `ctx` is the context behind the instruction.
 /// Source: Intel SDM volume 1, section 3.7.5, and volume 2, section 2.2.1.6.
 #[tactic(auto, unfolding(crate::specs::Address::address_of))]
-pub(crate) fn address_of(ctx: &Ctx, mem: &Mem) -> u64
+pub fn address_of(ctx: &Ctx, mem: &Mem) -> u64
     ensures { result ≡ spec.address_of ctx.now mem.now }
 {
     address_from(ctx, ctx.rip, mem)
