@@ -1,6 +1,6 @@
 -- Which memory an instruction accesses, and whether it is local.
 -- Source: Intel SDM volume 2, the pages of the instructions.
-use Rattle.std.specs.Prelude.{ℕ, ◌/◌, Bool, true, false, not, ◌&&◌, ◌||◌, ◌==◌, Option, Some, None, is_none}
+use Rattle.std.specs.Prelude.{◌≡◌, ◌⊎◌, ℕ, ◌/◌, Bool, true, false, not, ◌&&◌, ◌||◌, ◌==◌, Option, Some, None, is_none}
 use Rattle.vm_law.specs.declared.context.Ctx.{Ctx}
 use Rattle.vm_law.specs.declared.insn.Width.{Width}
 use Rattle.vm_law.specs.declared.insn.Width.TheVariants as width
@@ -90,6 +90,10 @@ stack_of c o = None
 unfoldable pub access_at : Ctx → Insn → Option (Way × Mem) → Option Access
 access_at c insn (Some x) = Some (record { way = x.0; at = address_of c x.1; len = size_of (operand_width insn) / 8 })
 access_at c insn None = stack_of c insn.op
+
+-- how many bytes an access has
+abbrev pub IsLength : ℕ → Type 0
+IsLength n = (n ≡ 1) ⊎ (n ≡ 2) ⊎ (n ≡ 4) ⊎ (n ≡ 8)
 
 -- the instruction's access, where it makes one; c is the context before it. IRETQ and LIDT are left to whoever runs them
 unfoldable pub access_of : Ctx → Insn → ℕ → Option Access

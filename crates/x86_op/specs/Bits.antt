@@ -1,6 +1,6 @@
 -- Shifts, rotates, tests and scans of bits. c is the context behind the instruction.
 -- Source: Intel SDM volume 2, the pages of the instructions.
-use Rattle.std.specs.Prelude.{ℕ, ◌%◌, ◌^◌, ◌==◌, ◌||◌, if◌then◌else◌}
+use Rattle.std.specs.Prelude.{ℕ, ◌%◌, ◌^◌, ◌==◌, Bool, true, false, ◌||◌, if◌then◌else◌}
 use Rattle.vm_law.specs.declared.context.Ctx.{Ctx}
 use Rattle.vm_law.specs.declared.insn.Width.{Width}
 use Rattle.vm_law.specs.declared.insn.Width.TheVariants as width
@@ -35,25 +35,26 @@ shift_done c w m k l n =
 unfoldable pub bit_of : ℕ → BitOp
 bit_of k = if k == 4 then bit.Bt else (if k == 5 then bit.Bts else (if k == 6 then bit.Btr else bit.Btc))
 
--- no bit operation has a form of 8 bits
-abbrev pub word_at_least : Width → Width
-word_at_least width.B = width.W
-word_at_least width.W = width.W
-word_at_least width.D = width.D
-word_at_least width.Q = width.Q
+-- no test or scan has a form of 8 bits; at that width the context stays
+abbrev pub is_byte : Width → Bool
+is_byte width.B = true
+is_byte w = false
 
--- BT leaves its operand
-unfoldable pub bit_done : Ctx → Width → ℕ → ℕ → Loc → Src → Done
-bit_done c w m k l s =
-    let a = value_at c w m l in
-    let b = source_at c w m s in
+-- BT leaves its operand; l is the place that held a, and b the index
+unfoldable pub tested : Ctx → Width → ℕ → Loc → ℕ → ℕ → Done
+tested c w k l a b =
     let r = bit_result (bit_of k) (size_of w) a b in
     let after = flagged c (bit_flags (bit_of k) (size_of w) a b c.rflags) in
     if k == 4 then only after else record { ctx = with_value after w l r; stored = r }
 
--- a scan of 0 leaves the register
-unfoldable pub scan_done : Ctx → BitOp → Width → ℕ → ℕ → Loc → Ctx
-scan_done c op w m r l =
-    let b = value_at c w m l in
+unfoldable pub bit_done : Ctx → Width → ℕ → ℕ → Loc → Src → Done
+bit_done c w m k l s = if is_byte w then only c else tested c w k l (value_at c w m l) (source_at c w m s)
+
+-- a scan of 0 leaves the whole register
+unfoldable pub scanned : Ctx → BitOp → Width → ℕ → ℕ → Ctx
+scanned c op w r b =
     let after = flagged c (bit_flags op (size_of w) 0 b c.rflags) in
     if b == 0 then after else with_value after w (loc.Reg r) (bit_result op (size_of w) 0 b)
+
+unfoldable pub scan_done : Ctx → BitOp → Width → ℕ → ℕ → Loc → Ctx
+scan_done c op w m r l = if is_byte w then c else scanned c op w r (value_at c w m l)

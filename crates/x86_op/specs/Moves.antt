@@ -21,12 +21,12 @@ use Rattle.x86_op.specs.Arithmetic.{compared, operated}
 unfoldable pub mov_done : Ctx → Width → ℕ → Loc → Src → Done
 mov_done c w m l s = record { ctx = with_value c w l (source_at c w m s); stored = source_at c w m s }
 
--- a value of one width as one of another: with its sign, or, which is the value itself, without
+-- a value of one width as one of another, with its sign; without it, that is the value itself, cut to the width
 unfoldable pub sign_extended : Width → Width → ℕ → ℕ
 sign_extended from to value = residue (span to) (signed (span from) value)
 
 unfoldable pub movzx_done : Ctx → Width → ℕ → ℕ → Width → Loc → Ctx
-movzx_done c w m r from l = with_value c w (loc.Reg r) (value_at c from m l)
+movzx_done c w m r from l = with_value c w (loc.Reg r) (value_at c from m l % span w)
 
 unfoldable pub movsx_done : Ctx → Width → ℕ → ℕ → Width → Loc → Ctx
 movsx_done c w m r from l = with_value c w (loc.Reg r) (sign_extended from w (value_at c from m l))

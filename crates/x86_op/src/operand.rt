@@ -20,7 +20,7 @@ pub(crate) fn truncated(width: Width, number: u64) -> u64
 
 /// A general register by its number. There is none above 15, and such a one reads as 0.
 #[tactic(auto, unfolding(crate::specs::Operand::register))]
-pub(crate) fn register(ctx: &Ctx, r: u8) -> u64
+pub fn register(ctx: &Ctx, r: u8) -> u64
     ensures { result ≡ spec.register ctx.now r }
 {
     if r < 16 { ctx.regs[usize::from(r)] } else { 0 }
@@ -28,7 +28,7 @@ pub(crate) fn register(ctx: &Ctx, r: u8) -> u64
 
 /// Writes a general register. One above 15 is left out.
 #[tactic(auto, unfolding(crate::specs::Operand::with_register))]
-pub(crate) fn set_register(ctx: &mut Ctx, r: u8, value: u64)
+pub fn set_register(ctx: &mut Ctx, r: u8, value: u64)
     ensures { ctx.new ≡ spec.with_register ctx.old r value }
 {
     if r < 16 {
@@ -69,7 +69,7 @@ pub(crate) fn immediate(width: Width, value: i64) -> u64
 
 /// The value of an operand; `m` is what was read at the operand in memory.
 #[tactic(auto, unfolding(crate::specs::Operand::value_at))]
-pub(crate) fn value_at(ctx: &Ctx, width: Width, m: u64, loc: &Loc) -> u64
+pub fn value_at(ctx: &Ctx, width: Width, m: u64, loc: &Loc) -> u64
     ensures result { result ≡ spec.value_at ctx.now width m loc.now }
     ensures fits { result < span width }
 {
@@ -94,7 +94,7 @@ pub(crate) fn source_at(ctx: &Ctx, width: Width, m: u64, src: &Src) -> u64
 
 /// Writes a result into its register. One for memory is stored by the caller.
 #[tactic(auto, unfolding(crate::specs::Operand::with_value))]
-pub(crate) fn set_value(ctx: &mut Ctx, width: Width, loc: &Loc, value: u64)
+pub fn set_value(ctx: &mut Ctx, width: Width, loc: &Loc, value: u64)
     requires { value < span width }
     ensures { ctx.new ≡ spec.with_value ctx.old width loc.now value }
 {
@@ -135,7 +135,7 @@ pub(crate) fn set_pair(ctx: &mut Ctx, width: Width, lower: u64, upper: u64)
 
 /// Goes behind an instruction of `len` bytes, and holds no interrupt off.
 #[tactic(auto, unfolding(crate::specs::Operand::passed))]
-pub(crate) fn pass(ctx: &mut Ctx, len: u8)
+pub fn pass(ctx: &mut Ctx, len: u8)
     ensures { ctx.new ≡ spec.passed ctx.old len }
 {
     ctx.rip = ctx.rip.wrapping_add(u64::from(len));
