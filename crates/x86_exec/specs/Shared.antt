@@ -100,7 +100,7 @@ done_in c insn len mem a m =
 unfoldable pub at_device : Ctx → Insn → ℕ → Memory → Way → Area → Shared
 at_device c insn len mem k x =
     if is_store k then
-        record { effect = effect.Store x ((computed c insn len 0).stored % 2 ^ 32); ctx = (computed c insn len 0).ctx; memory = mem }
+    record { effect = effect.Store x ((computed c insn len 0).stored % 2 ^ 32); ctx = (computed c insn len 0).ctx; memory = mem }
     else kept c mem (effect.Load x)
 
 unfoldable pub accessed : Ctx → Insn → ℕ → Memory → Access → Reached → Shared
@@ -154,12 +154,9 @@ lidt c len mem at InMemory = record { effect = effect.Done; ctx = idt_from c len
 abbrev pub lidt_at : Ctx → ℕ → Memory → ℕ → Shared
 lidt_at c len mem at = lidt c len mem at (reached false false (area_in mem at 10))
 
--- an operand's address counts from the next instruction
-abbrev pub address_behind : Ctx → ℕ → Mem → ℕ
-address_behind c len a = address_of (passed c len) a
-
+-- the operand's address counts from the next instruction
 abbrev pub lidt_of : Ctx → ℕ → Memory → Mem → Shared
-lidt_of c len mem a = lidt_at c len mem (address_behind c len a)
+lidt_of c len mem a = lidt_at c len mem (address_of (passed c len) a)
 
 -- the port that is named, or else DX
 unfoldable pub port_of : Ctx → Option ℕ → ℕ

@@ -1,6 +1,6 @@
 //! Instructions with an operand in memory, or on the stack.
 ghost use Rattle.std.specs.Prelude.{◌≡◌, ◌<◌, ◌≤◌, ◌+◌, false, true, length, IsTrue};
-ghost use Rattle.x86_exec.specs.Length.{IsLength};
+ghost use Rattle.x86_op.specs.Access.{IsLength};
 ghost use Rattle.x86_exec.specs.Reached.{IsInMemory};
 ghost use Rattle.x86_exec.specs.Shared as spec;
 
@@ -69,7 +69,14 @@ fn finish<B: Bytes>(
 
 /// A CMPXCHG, which is checked as a store where it stores.
 #[tactic(auto, unfolding(crate::specs::Shared::compared_in, crate::specs::Shared::stored_where))]
-fn compare<B: Bytes>(ctx: &mut Ctx, insn: &Insn, len: u8, bytes: &mut B, access: &Access, m: u64) -> Effect
+fn compare<B: Bytes>(
+    ctx: &mut Ctx,
+    insn: &Insn,
+    len: u8,
+    bytes: &mut B,
+    access: &Access,
+    m: u64,
+) -> Effect
     requires length { IsLength access.now.len }
     requires safe { IsInMemory (B.memory bytes.old) false access.now.at access.now.len }
     ensures effect { result ≡ (spec.compared_in ctx.old insn.now len (B.memory bytes.old) access.now m).effect }
@@ -88,7 +95,13 @@ fn compare<B: Bytes>(ctx: &mut Ctx, insn: &Insn, len: u8, bytes: &mut B, access:
 
 /// At memory.
 #[tactic(auto, unfolding(crate::specs::Shared::done_in, crate::specs::Shared::done_by, crate::specs::Shared::is_store))]
-fn in_memory<B: Bytes>(ctx: &mut Ctx, insn: &Insn, len: u8, bytes: &mut B, access: &Access) -> Effect
+fn in_memory<B: Bytes>(
+    ctx: &mut Ctx,
+    insn: &Insn,
+    len: u8,
+    bytes: &mut B,
+    access: &Access,
+) -> Effect
     requires length { IsLength access.now.len }
     requires safe { IsInMemory (B.memory bytes.old) (spec.is_store access.now.way) access.now.at access.now.len }
     ensures effect { let mem = B.memory bytes.old in result ≡ (spec.done_in ctx.old insn.now len mem access.now (spec.loaded mem access.now)).effect }
@@ -97,7 +110,10 @@ fn in_memory<B: Bytes>(ctx: &mut Ctx, insn: &Insn, len: u8, bytes: &mut B, acces
 {
     let m = loaded(bytes, access);
     if faults(ctx, insn, m) {
-        return Effect::Trap { vector: 0, error: None };
+        return Effect::Trap {
+            vector: 0,
+            error: None,
+        };
     }
     match access.way {
         Way::Compare => compare(ctx, insn, len, bytes, access, m),
@@ -108,7 +124,14 @@ fn in_memory<B: Bytes>(ctx: &mut Ctx, insn: &Insn, len: u8, bytes: &mut B, acces
 
 /// At a device: what is stored goes there, what is loaded is asked for.
 #[tactic(auto, unfolding(crate::specs::Shared::at_device))]
-fn at_device<B: Bytes>(ctx: &mut Ctx, insn: &Insn, len: u8, bytes: &B, way: Way, area: Area) -> Effect
+fn at_device<B: Bytes>(
+    ctx: &mut Ctx,
+    insn: &Insn,
+    len: u8,
+    bytes: &B,
+    way: Way,
+    area: Area,
+) -> Effect
     ensures effect { result ≡ (spec.at_device ctx.old insn.now len (B.memory bytes.now) way area).effect }
     ensures ctx { ctx.new ≡ (spec.at_device ctx.old insn.now len (B.memory bytes.now) way area).ctx }
     ensures memory { (spec.at_device ctx.old insn.now len (B.memory bytes.now) way area).memory ≡ B.memory bytes.now }
@@ -129,7 +152,13 @@ fn accessed<B: Bytes>(ctx: &mut Ctx, insn: &Insn, len: u8, bytes: &mut B, access
     ensures ctx { ctx.new ≡ (spec.accessed_at ctx.old insn.now len (B.memory bytes.old) access.now).ctx }
     ensures memory { B.memory bytes.new ≡ (spec.accessed_at ctx.old insn.now len (B.memory bytes.old) access.now).memory }
 {
-    match reach(bytes, is_store(access.way), is_plain(insn), access.at, access.len) {
+    match reach(
+        bytes,
+        is_store(access.way),
+        is_plain(insn),
+        access.at,
+        access.len,
+    ) {
         Reached::Refused(effect) => effect,
         Reached::Window(area) => at_device(ctx, insn, len, bytes, access.way, area),
         Reached::InMemory => in_memory(ctx, insn, len, bytes, access),
@@ -144,7 +173,10 @@ fn alone<B: Bytes>(ctx: &mut Ctx, insn: &Insn, len: u8, bytes: &B) -> Effect
     ensures memory { (spec.done_alone ctx.old insn.now len (B.memory bytes.now)).memory ≡ B.memory bytes.now }
 {
     if faults(ctx, insn, 0) {
-        return Effect::Trap { vector: 0, error: None };
+        return Effect::Trap {
+            vector: 0,
+            error: None,
+        };
     }
     compute(ctx, insn, len, 0);
     Effect::Done

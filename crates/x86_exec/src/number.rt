@@ -1,7 +1,7 @@
 //! Numbers in memory, their lowest byte first.
 ghost use Rattle.std.specs.Prelude.{◌≡◌, ◌<◌, ◌≤◌, ◌+◌, ◌*◌, ◌^◌, length};
 ghost use Rattle.byteorder.specs.Endian.{little_number, little_bytes};
-ghost use Rattle.x86_exec.specs.Length.{IsLength};
+ghost use Rattle.x86_op.specs.Access.{IsLength};
 ghost use Rattle.vm_law.specs.Memory.{read_of, written};
 
 use byteorder::{ByteOrder, LittleEndian};

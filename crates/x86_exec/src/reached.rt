@@ -34,8 +34,13 @@ fn judged(store: bool, plain: bool, area: Area) -> Reached
     ensures { result ≡ spec.reached store plain area }
 {
     match area {
-        Area::Noncanonical => Reached::Refused(Effect::Trap { vector: 13, error: Some(0) }),
-        Area::Lapic(offset) | Area::Ioapic(offset) | Area::Disk(_, offset) => windowed(plain, area, offset),
+        Area::Noncanonical => Reached::Refused(Effect::Trap {
+            vector: 13,
+            error: Some(0),
+        }),
+        Area::Lapic(offset) | Area::Ioapic(offset) | Area::Disk(_, offset) => windowed(
+            plain, area, offset,
+        ),
         Area::Split => Reached::Refused(Effect::Stop(Stop::Device)),
         Area::Nothing => Reached::Refused(Effect::Stop(Stop::Memory)),
         Area::Code if store => Reached::Refused(Effect::Stop(Stop::CodeWrite)),

@@ -17,10 +17,19 @@ pub fn run_shared<B: Bytes>(ctx: &mut Ctx, insn: &Insn, len: u8, bytes: &mut B) 
     ensures memory { B.memory bytes.new ≡ (spec.shared ctx.old insn.now len (B.memory bytes.old)).memory }
 {
     match &insn.op {
-        Op::In(port) => Effect::PortIn { port: port_of(ctx, *port), width: insn.width },
+        Op::In(port) => Effect::PortIn {
+            port: port_of(ctx, *port),
+            width: insn.width,
+        },
         Op::Out(port) => out(ctx, len, insn.width, *port),
-        Op::Int(vector) => Effect::Trap { vector: *vector, error: None },
-        Op::Ud2 => Effect::Trap { vector: 6, error: None },
+        Op::Int(vector) => Effect::Trap {
+            vector: *vector,
+            error: None,
+        },
+        Op::Ud2 => Effect::Trap {
+            vector: 6,
+            error: None,
+        },
         Op::Hlt => {
             pass(ctx, len);
             Effect::Halt

@@ -7,7 +7,7 @@ use crate::effect::Effect;
 use crate::number::{load_u16, load_u64};
 use crate::reached::{Reached, reach};
 use vm_law::{Bytes, Ctx, Loc, Mem, Stop, Width};
-use x86_op::{address_of, masked_flags, pass, register, set_register, value_at};
+use x86_op::{address_behind, masked_flags, pass, register, set_register, value_at};
 
 /// RSP by its number.
 const RSP: u8 = 4;
@@ -81,15 +81,6 @@ fn lidt_at<B: Bytes>(ctx: &mut Ctx, len: u8, bytes: &B, at: u64) -> Effect
             Effect::Done
         }
     }
-}
-
-/// The address of an operand, which counts from the next instruction.
-fn address_behind(ctx: &Ctx, len: u8, operand: &Mem) -> u64
-    ensures { result ≡ spec.address_behind ctx.now len operand.now }
-{
-    let mut behind = *ctx;
-    pass(&mut behind, len);
-    address_of(&behind, operand)
 }
 
 pub(crate) fn lidt<B: Bytes>(ctx: &mut Ctx, len: u8, bytes: &B, operand: &Mem) -> Effect
