@@ -1,0 +1,13 @@
+//! One instruction of a vCPU, with its access to memory.
+#![tactic(auto)]
+
+mod access;
+mod effect;
+mod number;
+mod reached;
+mod shared;
+mod system;
+
+pub use effect::Effect;
+pub use shared::{complete, run_shared};
+pub use x86_op::{is_local, run_local};

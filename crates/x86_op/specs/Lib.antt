@@ -1,0 +1,10 @@
+pub mod Operand
+pub mod Address
+pub mod Done
+pub mod Condition
+pub mod Arithmetic
+pub mod Moves
+pub mod Bits
+pub mod Flow
+pub mod Table
+pub mod Access

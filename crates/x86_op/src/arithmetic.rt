@@ -1,0 +1,168 @@
+//! ADD to CMP, TEST, NOT, NEG, INC, DEC, MUL, IMUL, DIV, IDIV. `ctx` is the context behind the instruction.
+//! Source: Intel SDM volume 2, the pages of the instructions.
+ghost use Rattle.std.specs.Prelude.{◌≡◌, ◌<◌};
+ghost use Rattle.x86_alu.specs.Operand.{span};
+ghost use Rattle.x86_op.specs.Arithmetic as spec;
+
+use crate::operand::{immediate, set_pair, set_value, source_at, upper_half, value_at};
+use vm_law::{Ctx, Loc, Src, Width};
+use x86_alu::{AluOp, alu, div, mul};
+
+/// The operation by its number: ADD 0, OR 1, ADC 2, SBB 3, AND 4, SUB 5, XOR 6, CMP 7.
+#[tactic(auto, unfolding(crate::specs::Arithmetic::alu_of))]
+fn alu_of(k: u8) -> AluOp
+    ensures { result ≡ spec.alu_of k }
+{
+    match k {
+        0 => AluOp::Add,
+        1 => AluOp::Or,
+        2 => AluOp::Adc,
+        3 => AluOp::Sbb,
+        4 => AluOp::And,
+        5 => AluOp::Sub,
+        6 => AluOp::Xor,
+        _ => AluOp::Cmp,
+    }
+}
+
+/// An operation whose result goes to the place that held `a`. Answers the result.
+#[tactic(auto, unfolding(crate::specs::Arithmetic::operated, crate::specs::Done::flagged))]
+pub(crate) fn operate(ctx: &mut Ctx, op: AluOp, width: Width, loc: &Loc, a: u64, b: u64) -> u64
+    requires a_fits { a < span width }
+    requires b_fits { b < span width }
+    ensures ctx { ctx.new ≡ (spec.operated ctx.old op width loc.now a b).ctx }
+    ensures stored { result ≡ (spec.operated ctx.old op width loc.now a b).stored }
+    ensures fits { result < span width }
+{
+    let (word, flags) = alu(op, width, a, b, ctx.rflags);
+    ctx.rflags = flags;
+    set_value(ctx, width, loc, word);
+    word
+}
+
+/// An operation whose result is dropped.
+#[tactic(auto, unfolding(crate::specs::Arithmetic::compared, crate::specs::Done::flagged))]
+pub(crate) fn compare(ctx: &mut Ctx, op: AluOp, width: Width, a: u64, b: u64)
+    requires a_fits { a < span width }
+    requires b_fits { b < span width }
+    ensures { ctx.new ≡ spec.compared ctx.old op width a b }
+{
+    ctx.rflags = alu(op, width, a, b, ctx.rflags).1;
+}
+
+/// ADD to CMP. Answers the value for an operand in memory, which CMP doesn't write.
+#[tactic(auto, unfolding(crate::specs::Arithmetic::alu_done))]
+pub(crate) fn alu_done(ctx: &mut Ctx, width: Width, m: u64, k: u8, loc: &Loc, src: &Src) -> u64
+    ensures ctx { ctx.new ≡ (spec.alu_done ctx.old width m k loc.now src.now).ctx }
+    ensures stored { result ≡ (spec.alu_done ctx.old width m k loc.now src.now).stored }
+    ensures fits { result < span width }
+{
+    let a = value_at(ctx, width, m, loc);
+    let b = source_at(ctx, width, m, src);
+    if k == 7 {
+        compare(ctx, AluOp::Cmp, width, a, b);
+        0
+    } else {
+        operate(ctx, alu_of(k), width, loc, a, b)
+    }
+}
+
+/// MUL, or with `signed` IMUL, of rAX by `b` into rDX:rAX, at width 8 of AL into AX.
+#[tactic(auto, unfolding(crate::specs::Arithmetic::multiplied, crate::specs::Done::flagged))]
+fn multiply(ctx: &mut Ctx, signed: bool, width: Width, b: u64)
+    requires { b < span width }
+    ensures { ctx.new ≡ spec.multiplied ctx.old signed width b }
+{
+    let a = value_at(ctx, width, 0, &Loc::Reg(0));
+    let (lower, upper, flags) = mul(signed, width, a, b, ctx.rflags);
+    ctx.rflags = flags;
+    set_pair(ctx, width, lower, upper);
+}
+
+// IMUL into a register, which takes the lower half of the product.
+#[tactic(auto, unfolding(crate::specs::Arithmetic::multiplied_to, crate::specs::Done::flagged))]
+fn multiply_to(ctx: &mut Ctx, width: Width, r: u8, a: u64, b: u64)
+    requires a_fits { a < span width }
+    requires b_fits { b < span width }
+    ensures { ctx.new ≡ spec.multiplied_to ctx.old width r a b }
+{
+    let (lower, _, flags) = mul(true, width, a, b, ctx.rflags);
+    ctx.rflags = flags;
+    set_value(ctx, width, &Loc::Reg(r), lower);
+}
+
+/// Whether DIV, or with `signed` IDIV, raises #DE.
+#[tactic(auto, unfolding(crate::specs::Arithmetic::faults_by))]
+fn faults_by(ctx: &Ctx, signed: bool, width: Width, by: u64) -> bool
+    requires { by < span width }
+    ensures { result ≡ spec.faults_by ctx.now signed width by }
+{
+    let high = value_at(ctx, width, 0, &upper_half(width));
+    let low = value_at(ctx, width, 0, &Loc::Reg(0));
+    div(signed, width, high, low, by, ctx.rflags).is_none()
+}
+
+/// DIV, or with `signed` IDIV, of rDX:rAX, at width 8 of AX. Where it raises #DE the context stays.
+#[tactic(auto, unfolding(crate::specs::Arithmetic::divided, crate::specs::Done::flagged))]
+fn divide(ctx: &mut Ctx, signed: bool, width: Width, by: u64)
+    requires { by < span width }
+    ensures { ctx.new ≡ spec.divided ctx.old signed width by }
+{
+    let high = value_at(ctx, width, 0, &upper_half(width));
+    let low = value_at(ctx, width, 0, &Loc::Reg(0));
+    if let Some((quotient, remainder, flags)) = div(signed, width, high, low, by, ctx.rflags) {
+        ctx.rflags = flags;
+        set_pair(ctx, width, quotient, remainder);
+    }
+}
+
+/// NOT 2, NEG 3, MUL 4, IMUL 5, DIV 6, IDIV 7. Answers the value for an operand in memory, which NOT and NEG write.
+#[tactic(auto, unfolding(crate::specs::Arithmetic::unary_done))]
+pub(crate) fn unary_done(ctx: &mut Ctx, width: Width, m: u64, k: u8, loc: &Loc) -> u64
+    ensures ctx { ctx.new ≡ (spec.unary_done ctx.old width m k loc.now).ctx }
+    ensures stored { result ≡ (spec.unary_done ctx.old width m k loc.now).stored }
+    ensures fits { result < span width }
+{
+    let a = value_at(ctx, width, m, loc);
+    match k {
+        2 => return operate(ctx, AluOp::Not, width, loc, a, 0),
+        3 => return operate(ctx, AluOp::Neg, width, loc, a, 0),
+        4 => multiply(ctx, false, width, a),
+        5 => multiply(ctx, true, width, a),
+        6 => divide(ctx, false, width, a),
+        _ => divide(ctx, true, width, a),
+    }
+    0
+}
+
+/// Whether a division raises #DE.
+#[tactic(auto, unfolding(crate::specs::Arithmetic::unary_faults))]
+pub(crate) fn unary_faults(ctx: &Ctx, width: Width, m: u64, k: u8, loc: &Loc) -> bool
+    ensures { result ≡ spec.unary_faults ctx.now width m k loc.now }
+{
+    let by = value_at(ctx, width, m, loc);
+    match k {
+        6 => faults_by(ctx, false, width, by),
+        7 => faults_by(ctx, true, width, by),
+        _ => false,
+    }
+}
+
+/// IMUL of a register by an operand.
+#[tactic(auto, unfolding(crate::specs::Arithmetic::imul2_done))]
+pub(crate) fn imul2(ctx: &mut Ctx, width: Width, m: u64, r: u8, loc: &Loc)
+    ensures { ctx.new ≡ spec.imul2_done ctx.old width m r loc.now }
+{
+    let a = value_at(ctx, width, m, &Loc::Reg(r));
+    let b = value_at(ctx, width, m, loc);
+    multiply_to(ctx, width, r, a, b);
+}
+
+/// IMUL of an operand by an immediate into a register.
+#[tactic(auto, unfolding(crate::specs::Arithmetic::imul3_done))]
+pub(crate) fn imul3(ctx: &mut Ctx, width: Width, m: u64, r: u8, loc: &Loc, value: i32)
+    ensures { ctx.new ≡ spec.imul3_done ctx.old width m r loc.now value }
+{
+    let a = value_at(ctx, width, m, loc);
+    multiply_to(ctx, width, r, a, immediate(width, i64::from(value)));
+}
