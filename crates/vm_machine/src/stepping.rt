@@ -34,6 +34,7 @@ const PLAIN: Performed = Performed {
     stop: None,
 };
 
+#[tactic(auto, unfolding(crate::specs::Stepping::is_byte))]
 fn is_byte(width: Width) -> bool
     ensures { result ≡ spec.is_byte width }
 {
