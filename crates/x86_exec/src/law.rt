@@ -7,3 +7,9 @@ ghost use Rattle.x86_exec.specs.Kept.{SharedKeepsCode, SharedLeaves};
 pub fn shared_leaves()
     ensures { SharedLeaves }
 {}
+
+/// The code part and how many bytes there are, which are fewer than 2^64, are as before.
+#[tactic(auto, using(crate::proofs::Keeps::shared_keeps_code))]
+pub fn shared_keeps_code()
+    ensures { SharedKeepsCode }
+{}

@@ -10,6 +10,6 @@ mod shared;
 mod system;
 
 pub use effect::Effect;
-pub use law::shared_leaves;
+pub use law::{shared_keeps_code, shared_leaves};
 pub use shared::{complete, run_shared};
 pub use x86_op::{is_local, run_local};
