@@ -10,6 +10,8 @@ use Rattle.x86_exec.specs.declared.effect.Effect.TheVariants as effect
 use Rattle.x86_exec.specs.declared.reached.Reached.{Reached}
 use Rattle.x86_exec.specs.declared.reached.Reached.TheVariants.{Window, Refused, InMemory}
 use Rattle.x86_exec.specs.Reached.{reached, windowed, IsSafe, IsInMemory}
+use Rattle.x86_exec.specs.Shared.{area_in}
+use Rattle.x86_exec.proofs.Inside.{IsPlaced, placed-within, area_placed}
 
 in_memory : (mem : Memory) (store : Bool) (at len : ℕ) → length mem.bytes < 2 ^ 64 → at + len ≤ length mem.bytes → (store ≡ true → mem.code ≤ at) → IsInMemory mem store at len
 in_memory mem store at len size inside behind = record { fits = omega arith; inside = inside; behind_code = behind }
@@ -26,16 +28,23 @@ code_safe : (mem : Memory) (store : Bool) (at len : ℕ) → length mem.bytes < 
 code_safe mem true at len size inside = tt
 code_safe mem false at len size inside = in_memory mem false at len size inside (λ e. cc)
 
-reached_safe : (mem : Memory) (store plain : Bool) (at len : ℕ) (x : Area) → length mem.bytes < 2 ^ 64 → 0 < len → IsWithin at len mem.code (length mem.bytes) x → IsSafe mem store at len (reached store plain x)
+reached_safe : (mem : Memory) (store plain : Bool) (at len : ℕ) (x : Area) → length mem.bytes < 2 ^ 64 → IsPlaced at len mem.code (length mem.bytes) x → IsSafe mem store at len (reached store plain x)
 unfolding reached
-reached_safe mem store plain at len area.Noncanonical size some within = tt
-reached_safe mem store plain at len (area.Lapic offset) size some within = windowed_safe mem store at len plain (area.Lapic offset) offset
-reached_safe mem store plain at len (area.Ioapic offset) size some within = windowed_safe mem store at len plain (area.Ioapic offset) offset
-reached_safe mem store plain at len (area.Disk k offset) size some within = windowed_safe mem store at len plain (area.Disk k offset) offset
-reached_safe mem store plain at len area.Split size some within = tt
-reached_safe mem store plain at len area.Nothing size some within = tt
-reached_safe mem store plain at len area.Code size some within = code_safe mem store at len size (within some)
-reached_safe mem store plain at len area.Ram size some within = in_memory mem store at len size (within some).1 (λ e. (within some).0)
+reached_safe mem store plain at len area.Noncanonical size placed = tt
+reached_safe mem store plain at len (area.Lapic offset) size placed = windowed_safe mem store at len plain (area.Lapic offset) offset
+reached_safe mem store plain at len (area.Ioapic offset) size placed = windowed_safe mem store at len plain (area.Ioapic offset) offset
+reached_safe mem store plain at len (area.Disk k offset) size placed = windowed_safe mem store at len plain (area.Disk k offset) offset
+reached_safe mem store plain at len area.Split size placed = tt
+reached_safe mem store plain at len area.Nothing size placed = tt
+reached_safe mem store plain at len area.Code size placed = code_safe mem store at len size placed
+reached_safe mem store plain at len area.Ram size placed = in_memory mem store at len size placed.1 (λ e. placed.0)
 
 pub safe : (mem : Memory) (store plain : Bool) (at len : ℕ) (x : Area) (r : Reached) → r ≡ reached store plain x → length mem.bytes < 2 ^ 64 → 0 < len → IsWithin at len mem.code (length mem.bytes) x → IsSafe mem store at len r
-safe mem store plain at len x r is size some within = subst (λ (v : Reached). IsSafe mem store at len v) (sym is) (reached_safe mem store plain at len x size some within)
+safe mem store plain at len x r is size some within =
+    let placed = placed-within at len mem.code (length mem.bytes) x some within in
+    subst (λ (v : Reached). IsSafe mem store at len v) (sym is) (reached_safe mem store plain at len x size placed)
+
+pub area_safe : (mem : Memory) (store plain : Bool) (at len : ℕ) → length mem.bytes < 2 ^ 64 → at < 2 ^ 64 → 0 < len → len ≤ 8 → IsSafe mem store at len (reached store plain (area_in mem at len))
+unfolding area_in
+area_safe mem store plain at len size fits some short =
+    reached_safe mem store plain at len _ size (area_placed at len mem.code (length mem.bytes) fits (omega arith) size some)
