@@ -185,6 +185,14 @@ fn settle(core: &mut Core, i: u8, ctx: Ctx, done: Performed) -> Option<u8>
     done.output
 }
 
+/// The registers of a vCPU.
+fn ctx_of(core: &Core, i: u8) -> Ctx
+    requires { IsTrue (state.is_cpu core.now i) }
+    ensures { result ≡ (state.cpu_at core.now i).ctx }
+{
+    core.machine.cpus.at(i as usize).ctx
+}
+
 /// One instruction that isn't local, and the byte that it gives to the console.
 #[tactic(auto, unfolding(crate::specs::Running::outcome_of))]
 fn share(core: &mut Core, i: u8, insn: Insn, len: u8) -> Option<u8>
@@ -194,7 +202,7 @@ fn share(core: &mut Core, i: u8, insn: Insn, len: u8) -> Option<u8>
     ensures state { core.new ≡ spec.settled core.old i (spec.outcome_of (state.cpu_at core.old i).ctx core.old.machine.ram (Next.Shared insn len)) }
     ensures output { result ≡ spec.output_by (spec.outcome_of (state.cpu_at core.old i).ctx core.old.machine.ram (Next.Shared insn len)) }
 {
-    let mut ctx = core.machine.cpus.at(i as usize).ctx;
+    let mut ctx = ctx_of(core, i);
     let done = perform(&mut ctx, &mut core.machine.ram, &insn, len);
     settle(core, i, ctx, done)
 }
@@ -208,7 +216,7 @@ fn refuse(core: &mut Core, i: u8) -> Option<u8>
     ensures state { core.new ≡ spec.settled core.old i (spec.outcome_of (state.cpu_at core.old i).ctx core.old.machine.ram Next.Undefined) }
     ensures output { result ≡ spec.output_by (spec.outcome_of (state.cpu_at core.old i).ctx core.old.machine.ram Next.Undefined) }
 {
-    let mut ctx = core.machine.cpus.at(i as usize).ctx;
+    let mut ctx = ctx_of(core, i);
     let done = undefined(&mut ctx, &mut core.machine.ram);
     settle(core, i, ctx, done)
 }

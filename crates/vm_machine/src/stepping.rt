@@ -1,5 +1,7 @@
 //! One instruction that isn't local.
 ghost use Rattle.std.specs.Prelude.{◌≡◌, IsSome};
+ghost use Rattle.x86_exec.specs.Shared.{shared};
+ghost use Rattle.x86_exec.specs.Kept.{Leaves};
 ghost use Rattle.vm_machine.specs.Stepping as spec;
 
 use guest_ram::GuestRam;
@@ -69,25 +71,30 @@ fn pushed_rip(ctx: &Ctx, op: Op, len: u8) -> u64
 
 /// Delivers an exception or a software interrupt, which pushes this RIP.
 #[tactic(auto, unfolding(crate::specs::Stepping::trapped))]
-fn trap(ctx: &mut Ctx, ram: &mut GuestRam, rip: u64, vector: u8, error: Option<u64>) -> Option<Stop>
+fn trap(ctx: &mut Ctx, ram: &mut GuestRam, rip: u64, vector: u8, error: Option<u64>) -> Performed
     ensures ctx { ctx.new ≡ (spec.trapped ctx.old rip ram.old vector error).ctx }
     ensures memory { ram.new ≡ (spec.trapped ctx.old rip ram.old vector error).memory }
-    ensures stop { result ≡ (spec.trapped ctx.old rip ram.old vector error).stop }
-    ensures kept { IsSome result → ram.new ≡ ram.old }
+    ensures halted { result.halted ≡ (spec.trapped ctx.old rip ram.old vector error).halted }
+    ensures output { result.output ≡ (spec.trapped ctx.old rip ram.old vector error).output }
+    ensures stop { result.stop ≡ (spec.trapped ctx.old rip ram.old vector error).stop }
+    ensures kept { IsSome result.stop → ram.new ≡ ram.old }
 {
     let before = ctx.rip;
     ctx.rip = rip;
     match deliver(ctx, ram, vector, error, false) {
-        Ok(()) => None,
+        Ok(()) => PLAIN,
         Err(stop) => {
             ctx.rip = before;
-            Some(stop)
+            Performed {
+                stop: Some(stop),
+                ..PLAIN
+            }
         }
     }
 }
 
 /// Bytes that no instruction spells.
-#[tactic(auto, unfolding(crate::specs::Stepping::undefined, crate::specs::Stepping::trapped))]
+#[tactic(auto, unfolding(crate::specs::Stepping::undefined))]
 pub(crate) fn undefined(ctx: &mut Ctx, ram: &mut GuestRam) -> Performed
     ensures ctx { ctx.new ≡ (spec.undefined ctx.old ram.old).ctx }
     ensures memory { ram.new ≡ (spec.undefined ctx.old ram.old).memory }
@@ -97,10 +104,17 @@ pub(crate) fn undefined(ctx: &mut Ctx, ram: &mut GuestRam) -> Performed
     ensures kept { IsSome result.stop → ram.new ≡ ram.old }
 {
     let rip = ctx.rip;
-    Performed {
-        stop: trap(ctx, ram, rip, INVALID_OPCODE, None),
-        ..PLAIN
-    }
+    trap(ctx, ram, rip, INVALID_OPCODE, None)
+}
+
+/// Runs an instruction of `len` bytes, and says what it asks for.
+fn run_one(ctx: &mut Ctx, ram: &mut GuestRam, insn: &Insn, len: u8) -> Effect
+    ensures effect { result ≡ (shared ctx.old insn.now len ram.old).effect }
+    ensures ctx { ctx.new ≡ (shared ctx.old insn.now len ram.old).ctx }
+    ensures memory { ram.new ≡ (shared ctx.old insn.now len ram.old).memory }
+    ensures leaves { Leaves result ctx.old ctx.new ram.old ram.new }
+{
+    run_shared(ctx, insn, len, ram)
 }
 
 /// One instruction of `len` bytes.
@@ -113,7 +127,7 @@ pub(crate) fn perform(ctx: &mut Ctx, ram: &mut GuestRam, insn: &Insn, len: u8) -
     ensures stop { result.stop ≡ (spec.performed ctx.old insn.now len ram.old).stop }
     ensures kept { IsSome result.stop → ram.new ≡ ram.old }
 {
-    match run_shared(ctx, insn, len, ram) {
+    match run_one(ctx, ram, insn, len) {
         Effect::Done | Effect::Store { .. } => PLAIN,
         Effect::Halt => Performed {
             halted: true,
@@ -121,10 +135,7 @@ pub(crate) fn perform(ctx: &mut Ctx, ram: &mut GuestRam, insn: &Insn, len: u8) -
         },
         Effect::Trap { vector, error } => {
             let rip = pushed_rip(ctx, insn.op, len);
-            Performed {
-                stop: trap(ctx, ram, rip, vector, error),
-                ..PLAIN
-            }
+            trap(ctx, ram, rip, vector, error)
         }
         Effect::Stop(stop) => Performed {
             stop: Some(stop),

@@ -1,4 +1,4 @@
-ghost use Rattle.std.specs.Prelude.{◌≡◌, length};
+ghost use Rattle.std.specs.Prelude.{◌≡◌, length, OnErr};
 ghost use Rattle.vm_law.specs.Memory.{code_of};
 ghost use Rattle.x86_trap.specs.Delivery as spec;
 
@@ -28,6 +28,7 @@ pub fn deliver<B: Bytes>(
     ensures answer { result ≡ (spec.delivered ctx.old (B.memory bytes.old) vector error nmi).answer }
     ensures ctx { ctx.new ≡ (spec.delivered ctx.old (B.memory bytes.old) vector error nmi).ctx }
     ensures memory { B.memory bytes.new ≡ (spec.delivered ctx.old (B.memory bytes.old) vector error nmi).memory }
+    ensures kept { OnErr result ((ctx.new ≡ ctx.old) × (B.memory bytes.new ≡ B.memory bytes.old)) }
     ensures code { code_of (B.memory bytes.new) ≡ code_of (B.memory bytes.old) }
     ensures size { length (B.memory bytes.new).bytes ≡ length (B.memory bytes.old).bytes }
 {
