@@ -1,5 +1,5 @@
 -- What each instruction leaves.
-use Rattle.std.proofs.Common.{◌≡◌, ℕ, Bool, true, false, Option, Some, None, if◌then◌else◌, refl}
+use Rattle.std.proofs.Common.{◌≡◌, ℕ, Bool, true, false, Option, Some, None, if◌then◌else◌, refl, sym, subst}
 use Rattle.vm_law.specs.Memory.{Memory}
 use Rattle.vm_law.specs.declared.context.Ctx.{Ctx}
 use Rattle.vm_law.specs.declared.context.Stop.TheVariants as stop
@@ -20,10 +20,17 @@ use Rattle.x86_exec.specs.Reached.{reached}
 use Rattle.x86_exec.specs.Shared.{Shared, kept, area_in, is_store, is_plain, done_with, stored_where, compared_in, done_by, done_in, at_device, accessed, accessed_at, done_alone, with_access, with_own_access, loaded, iret, iret_here, lidt, lidt_of, shared_op, shared}
 use Rattle.x86_exec.specs.Kept.{Leaves, SharedLeaves}
 
-abbrev Left : Ctx → Memory → Shared → Type 0
+abbrev pub Left : Ctx → Memory → Shared → Type 0
 Left c mem s = Leaves s.effect c s.ctx mem s.memory
 
-pub chosen : (P : Shared → Type 0) (b : Bool) (x y : Shared) → P x → P y → P (if b then x else y)
+-- the same of what is equal
+pub left : (c after : Ctx) (mem new : Memory) (e : Effect) (s : Shared) → Left c mem s → e ≡ s.effect → after ≡ s.ctx → new ≡ s.memory → Leaves e c after mem new
+left c after mem new e s h by_effect by_ctx by_memory =
+    let first = subst (λ (x : Effect). Leaves x c s.ctx mem s.memory) (sym by_effect) h in
+    let second = subst (λ (x : Ctx). Leaves e c x mem s.memory) (sym by_ctx) first in
+    subst (λ (x : Memory). Leaves e c after mem x) (sym by_memory) second
+
+chosen : (P : Shared → Type 0) (b : Bool) (x y : Shared) → P x → P y → P (if b then x else y)
 chosen P true x y p q = p
 chosen P false x y p q = q
 
@@ -79,18 +86,18 @@ done_alone_left : (c : Ctx) (insn : Insn) (len : ℕ) (mem : Memory) → Left c 
 unfolding done_alone
 done_alone_left c insn len mem = chosen (Left c mem) (faults c insn 0) _ _ (refl, refl) tt
 
-with_access_left : (c : Ctx) (insn : Insn) (len : ℕ) (mem : Memory) (x : Option Access) → Left c mem (with_access c insn len mem x)
+pub with_access_left : (c : Ctx) (insn : Insn) (len : ℕ) (mem : Memory) (x : Option Access) → Left c mem (with_access c insn len mem x)
 unfolding with_access
 with_access_left c insn len mem None = done_alone_left c insn len mem
 with_access_left c insn len mem (Some a) = accessed_left c insn len mem a _
 
-iret_left : (c : Ctx) (len : ℕ) (mem : Memory) (at : ℕ) (r : Reached) → Left c mem (iret c len mem at r)
+pub iret_left : (c : Ctx) (len : ℕ) (mem : Memory) (at : ℕ) (r : Reached) → Left c mem (iret c len mem at r)
 unfolding iret
 iret_left c len mem at (Refused e) = kept_left c mem e
 iret_left c len mem at (Window x) = (refl, refl)
 iret_left c len mem at InMemory = tt
 
-lidt_left : (c : Ctx) (len : ℕ) (mem : Memory) (at : ℕ) (r : Reached) → Left c mem (lidt c len mem at r)
+pub lidt_left : (c : Ctx) (len : ℕ) (mem : Memory) (at : ℕ) (r : Reached) → Left c mem (lidt c len mem at r)
 unfolding lidt
 lidt_left c len mem at (Refused e) = kept_left c mem e
 lidt_left c len mem at (Window x) = (refl, refl)

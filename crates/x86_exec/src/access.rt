@@ -1,6 +1,7 @@
 //! Instructions with an operand in memory, or on the stack.
 ghost use Rattle.std.specs.Prelude.{◌≡◌, ◌<◌, ◌≤◌, ◌+◌, false, true, length, IsTrue};
 ghost use Rattle.x86_op.specs.Access.{IsLength};
+ghost use Rattle.x86_exec.specs.Kept.{KeepsCode};
 ghost use Rattle.x86_exec.specs.Reached.{IsInMemory};
 ghost use Rattle.x86_exec.specs.Shared as spec;
 
@@ -59,6 +60,7 @@ fn finish<B: Bytes>(
     ensures effect { result ≡ (spec.done_with ctx.old insn.now len (B.memory bytes.old) access.now m stores).effect }
     ensures ctx { ctx.new ≡ (spec.done_with ctx.old insn.now len (B.memory bytes.old) access.now m stores).ctx }
     ensures memory { B.memory bytes.new ≡ (spec.done_with ctx.old insn.now len (B.memory bytes.old) access.now m stores).memory }
+    ensures code { KeepsCode (B.memory bytes.old) (B.memory bytes.new) }
 {
     let stored = compute(ctx, insn, len, m);
     if stores {
@@ -82,6 +84,7 @@ fn compare<B: Bytes>(
     ensures effect { result ≡ (spec.compared_in ctx.old insn.now len (B.memory bytes.old) access.now m).effect }
     ensures ctx { ctx.new ≡ (spec.compared_in ctx.old insn.now len (B.memory bytes.old) access.now m).ctx }
     ensures memory { B.memory bytes.new ≡ (spec.compared_in ctx.old insn.now len (B.memory bytes.old) access.now m).memory }
+    ensures code { KeepsCode (B.memory bytes.old) (B.memory bytes.new) }
 {
     if !matches_accumulator(ctx, insn, m) {
         return finish(ctx, insn, len, bytes, access, m, false);
@@ -107,6 +110,7 @@ fn in_memory<B: Bytes>(
     ensures effect { let mem = B.memory bytes.old in result ≡ (spec.done_in ctx.old insn.now len mem access.now (spec.loaded mem access.now)).effect }
     ensures ctx { let mem = B.memory bytes.old in ctx.new ≡ (spec.done_in ctx.old insn.now len mem access.now (spec.loaded mem access.now)).ctx }
     ensures memory { let mem = B.memory bytes.old in B.memory bytes.new ≡ (spec.done_in ctx.old insn.now len mem access.now (spec.loaded mem access.now)).memory }
+    ensures code { KeepsCode (B.memory bytes.old) (B.memory bytes.new) }
 {
     let m = loaded(bytes, access);
     if faults(ctx, insn, m) {
@@ -151,6 +155,7 @@ fn accessed<B: Bytes>(ctx: &mut Ctx, insn: &Insn, len: u8, bytes: &mut B, access
     ensures effect { result ≡ (spec.accessed_at ctx.old insn.now len (B.memory bytes.old) access.now).effect }
     ensures ctx { ctx.new ≡ (spec.accessed_at ctx.old insn.now len (B.memory bytes.old) access.now).ctx }
     ensures memory { B.memory bytes.new ≡ (spec.accessed_at ctx.old insn.now len (B.memory bytes.old) access.now).memory }
+    ensures code { KeepsCode (B.memory bytes.old) (B.memory bytes.new) }
 {
     match reach(
         bytes,
@@ -188,6 +193,7 @@ pub(crate) fn with_access<B: Bytes>(ctx: &mut Ctx, insn: &Insn, len: u8, bytes: 
     ensures effect { result ≡ (spec.with_own_access ctx.old insn.now len (B.memory bytes.old)).effect }
     ensures ctx { ctx.new ≡ (spec.with_own_access ctx.old insn.now len (B.memory bytes.old)).ctx }
     ensures memory { B.memory bytes.new ≡ (spec.with_own_access ctx.old insn.now len (B.memory bytes.old)).memory }
+    ensures code { KeepsCode (B.memory bytes.old) (B.memory bytes.new) }
 {
     match access_of(ctx, insn, len) {
         None => alone(ctx, insn, len, bytes),

@@ -2,6 +2,7 @@
 ghost use Rattle.std.specs.Prelude.{◌≡◌, ◌<◌, ◌≤◌, ◌+◌, ◌*◌, ◌^◌, length};
 ghost use Rattle.byteorder.specs.Endian.{little_number, little_bytes};
 ghost use Rattle.x86_op.specs.Access.{IsLength};
+ghost use Rattle.x86_exec.specs.Kept.{KeepsCode};
 ghost use Rattle.vm_law.specs.Memory.{read_of, written};
 
 use byteorder::{ByteOrder, LittleEndian};
@@ -62,7 +63,8 @@ pub(crate) fn store<B: Bytes>(bytes: &mut B, at: u64, len: u8, number: u64)
     requires length { IsLength len }
     requires inside { at + len ≤ length (B.memory bytes.old).bytes }
     requires data { (B.memory bytes.old).code ≤ at }
-    ensures { B.memory bytes.new ≡ written (B.memory bytes.old) at (little_bytes len number) }
+    ensures memory { B.memory bytes.new ≡ written (B.memory bytes.old) at (little_bytes len number) }
+    ensures code { KeepsCode (B.memory bytes.old) (B.memory bytes.new) }
 {
     let piece = number.to_le_bytes();
     match len {

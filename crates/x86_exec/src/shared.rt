@@ -1,6 +1,7 @@
 //! The instructions, and their completion.
 ghost use Rattle.std.specs.Prelude.{◌≡◌, ◌%◌};
 ghost use Rattle.x86_alu.specs.Operand.{span};
+ghost use Rattle.x86_exec.specs.Kept.{KeepsCode, Leaves};
 ghost use Rattle.x86_exec.specs.Shared as spec;
 
 use crate::access::with_access;
@@ -15,6 +16,8 @@ pub fn run_shared<B: Bytes>(ctx: &mut Ctx, insn: &Insn, len: u8, bytes: &mut B) 
     ensures effect { result ≡ (spec.shared ctx.old insn.now len (B.memory bytes.old)).effect }
     ensures ctx { ctx.new ≡ (spec.shared ctx.old insn.now len (B.memory bytes.old)).ctx }
     ensures memory { B.memory bytes.new ≡ (spec.shared ctx.old insn.now len (B.memory bytes.old)).memory }
+    ensures code { KeepsCode (B.memory bytes.old) (B.memory bytes.new) }
+    ensures leaves { Leaves result ctx.old ctx.new (B.memory bytes.old) (B.memory bytes.new) }
 {
     match &insn.op {
         Op::In(port) => Effect::PortIn {
