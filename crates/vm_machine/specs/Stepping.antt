@@ -2,11 +2,10 @@
 -- Source: Intel SDM volume 3, sections 6.12 to 6.15; the pages of HLT, IN, OUT and INT in volume 2. The serial port's data
 -- port takes bytes for the console; until devices are wired in, every other port takes what is written and gives all ones,
 -- and the devices' windows take what is written and give 0.
-use Rattle.std.specs.Prelude.{ℕ, ◌+◌, ◌-◌, ◌%◌, ◌^◌, Bool, true, false, ◌&&◌, ◌==◌, Option, Some, None, Result, Ok, Err, if◌then◌else◌}
+use Rattle.std.specs.Prelude.{ℕ, ◌+◌, ◌%◌, ◌^◌, Bool, true, false, ◌&&◌, ◌==◌, Option, Some, None, Result, Ok, Err, if◌then◌else◌}
 use Rattle.vm_law.specs.Memory.{Memory}
 use Rattle.vm_law.specs.declared.context.Ctx.{Ctx}
 use Rattle.vm_law.specs.declared.context.Stop.{Stop}
-use Rattle.vm_law.specs.declared.context.Stop.TheVariants as stop
 use Rattle.vm_law.specs.declared.insn.Width.{Width}
 use Rattle.vm_law.specs.declared.insn.Width.TheVariants as width
 use Rattle.vm_law.specs.declared.insn.Op.{Op}

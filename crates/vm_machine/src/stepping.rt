@@ -1,7 +1,5 @@
 //! One instruction that isn't local.
 ghost use Rattle.std.specs.Prelude.{◌≡◌, IsSome};
-ghost use Rattle.x86_exec.specs.Shared.{shared};
-ghost use Rattle.x86_exec.specs.Kept.{Leaves};
 ghost use Rattle.vm_machine.specs.Stepping as spec;
 
 use guest_ram::GuestRam;
@@ -107,16 +105,6 @@ pub(crate) fn undefined(ctx: &mut Ctx, ram: &mut GuestRam) -> Performed
     trap(ctx, ram, rip, INVALID_OPCODE, None)
 }
 
-/// Runs an instruction of `len` bytes, and says what it asks for.
-fn run_one(ctx: &mut Ctx, ram: &mut GuestRam, insn: &Insn, len: u8) -> Effect
-    ensures effect { result ≡ (shared ctx.old insn.now len ram.old).effect }
-    ensures ctx { ctx.new ≡ (shared ctx.old insn.now len ram.old).ctx }
-    ensures memory { ram.new ≡ (shared ctx.old insn.now len ram.old).memory }
-    ensures leaves { Leaves result ctx.old ctx.new ram.old ram.new }
-{
-    run_shared(ctx, insn, len, ram)
-}
-
 /// One instruction of `len` bytes.
 #[tactic(auto, unfolding(crate::specs::Stepping::performed, crate::specs::Stepping::performed_as))]
 pub(crate) fn perform(ctx: &mut Ctx, ram: &mut GuestRam, insn: &Insn, len: u8) -> Performed
@@ -127,7 +115,7 @@ pub(crate) fn perform(ctx: &mut Ctx, ram: &mut GuestRam, insn: &Insn, len: u8) -
     ensures stop { result.stop ≡ (spec.performed ctx.old insn.now len ram.old).stop }
     ensures kept { IsSome result.stop → ram.new ≡ ram.old }
 {
-    match run_one(ctx, ram, insn, len) {
+    match run_shared(ctx, insn, len, ram) {
         Effect::Done | Effect::Store { .. } => PLAIN,
         Effect::Halt => Performed {
             halted: true,

@@ -1,6 +1,6 @@
 use Rattle.std.proofs.Common.{ap, ◌∙◌}
 use Rattle.vm_law.specs.declared.context.Ctx.{Ctx}
-use Rattle.vm_machine.specs.Stepping.{Outcome, performed}
+use Rattle.vm_machine.specs.Stepping.{performed}
 use Rattle.vm_machine.specs.Running.{outcome_of, settled_by}
 use Rattle.vm_machine.proofs.Settled.{settled_is}
 use Rattle.vm_machine.proofs.running.share.Goals as goal
