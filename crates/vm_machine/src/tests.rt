@@ -5,8 +5,8 @@ use super::*;
 use std::alloc::Global;
 use std::test::Fail;
 use vm_law::{
-    EndCause, Entry, FlatImage, Insn, Loc, Op, Order, OutOfMemory, Owned, Plan, Seq, Src, Stop,
-    Text, Width,
+    Bytes, EndCause, Entry, FlatImage, Insn, Loc, Op, Order, OutOfMemory, Owned, Plan, Seq, Src,
+    Stop, Text, Width,
 };
 
 /// MOV EDX, 3F8; MOV AL, 41; OUT DX, AL; HLT.
@@ -63,6 +63,39 @@ fn plan_of(alloc: Global, cpus: u8) -> Plan
     }
 }
 
+/// A start with this payload, of which the first `code` bytes are code.
+fn start_with(
+    alloc: Global,
+    cpus: u8,
+    payload: &[u8],
+    code: u64,
+    limit: u64,
+) -> Result<Start, OutOfMemory>
+    requires some_cpu { 1 ≤ cpus }
+    requires cpus { cpus ≤ 16 }
+    requires some_code { 1 ≤ code }
+    requires code { code ≤ length payload.now }
+    requires payload { length payload.now ≤ 4096 }
+    requires some_limit { 1 ≤ limit }
+    requires limit { limit ≤ 20000000 }
+    ensures { IfOk result IsSound }
+{
+    let payload = Seq::from_slice(alloc, payload)?;
+    let mut script = Seq::new(alloc);
+    script.push(Order::WaitQuiet)?;
+    Ok(Start {
+        plan: plan_of(alloc, cpus),
+        origin: Origin::Flat(FlatImage {
+            entry: 0,
+            code,
+            payload,
+        }),
+        disks: Seq::new(alloc),
+        script,
+        limit,
+    })
+}
+
 fn start_of(alloc: Global, cpus: u8, code: &[u8], limit: u64) -> Result<Start, OutOfMemory>
     requires some_cpu { 1 ≤ cpus }
     requires cpus { cpus ≤ 16 }
@@ -72,20 +105,7 @@ fn start_of(alloc: Global, cpus: u8, code: &[u8], limit: u64) -> Result<Start, O
     requires limit { limit ≤ 20000000 }
     ensures { IfOk result IsSound }
 {
-    let payload = Seq::from_slice(alloc, code)?;
-    let mut script = Seq::new(alloc);
-    script.push(Order::WaitQuiet)?;
-    Ok(Start {
-        plan: plan_of(alloc, cpus),
-        origin: Origin::Flat(FlatImage {
-            entry: 0,
-            code: code.len() as u64,
-            payload,
-        }),
-        disks: Seq::new(alloc),
-        script,
-        limit,
-    })
+    start_with(alloc, cpus, code, code.len() as u64, limit)
 }
 
 /// What an entry is tried for.
@@ -366,12 +386,22 @@ const RUNNING: [(u16, Entry, Case); 2] = [
     (1, Entry::Enter { cpu: 0, grant: 9 }, Case::Adds),
 ];
 
-/// Runs instructions one by one for as long as one may.
+/// Runs instructions one by one for as long as one may, at most nine.
 fn run_single(alloc: Global, code: &[u8]) -> Result<Run, OutOfMemory>
     requires some_code { 1 ≤ length code.now }
     requires code { length code.now ≤ 4096 }
 {
-    let (mut run, _wrong) = play(alloc, 1, code, 100, &RUNNING)?;
+    let start = start_of(alloc, 1, code, 100)?;
+    run_from(alloc, &start)
+}
+
+fn run_from(alloc: Global, start: &Start) -> Result<Run, OutOfMemory>
+    requires { IsSound start.now }
+{
+    let mut run = Run::begin(alloc, start)?;
+    for (by, entry, _case) in RUNNING.iter() {
+        add(&mut run, alloc, *by, entry)?;
+    }
     for _ in 0..9 {
         if !add(&mut run, alloc, 1, &Entry::Slice { cpu: 0, n: 1 })? {
             add(&mut run, alloc, 1, &Entry::Step { cpu: 0 })?;
@@ -473,6 +503,44 @@ fn what_cannot_be_done_stops(rt: HostRuntime) -> Result<(), Fail> {
         assert!(rt; run.ended() == Some(why) && run.executed() == *executed);
         assert!(rt; run.console().is_empty());
     }
+    Ok(())
+}
+
+/// MOV ESP, 1000; LIDT [40]; UD2; and the handler at 15: MOV EDX, 3F8; MOV AL, 41; OUT DX, AL; HLT.
+const TRAPPING: [u8; 24] = [
+    0xBC, 0, 0x10, 0, 0, 0x0F, 0x01, 0x1C, 0x25, 0x40, 0, 0, 0, 0x0F, 0x0B, 0xBA, 0xF8, 0x03, 0, 0,
+    0xB0, 0x41, 0xEE, 0xF4,
+];
+
+/// The code above, at 0x40 the limit and base of an IDT, and at 0xB0 its gate 6, an interrupt gate to 15.
+fn trapping() -> [u8; 192] {
+    let mut image = [0; 192];
+    image[..24].copy_from_slice(&TRAPPING);
+    image[0x40..0x44].copy_from_slice(&[0x6F, 0, 0x50, 0]);
+    image[0xB0..0xB8].copy_from_slice(&[15, 0, 8, 0, 0, 0x8E, 0, 0]);
+    image
+}
+
+/// #UD is delivered, with the address of UD2 in its frame, and the handler goes on.
+#[test]
+fn an_exception_is_delivered(rt: HostRuntime) -> Result<(), Fail> {
+    let start = start_with(rt.alloc(), 1, &trapping(), 24, 100)?;
+    let run = run_from(rt.alloc(), &start)?;
+    run.is_sound();
+    assert_eq!(rt;
+        (run.ended(), run.executed(), run.console()),
+        (None, 7, b"A".as_slice())
+    );
+    let cpu = run.cpu(0);
+    assert_eq!(rt;
+        (cpu.halted, cpu.ctx.rip, cpu.ctx.regs[4]),
+        (true, 24, 0xFD8)
+    );
+    let ram = &run.machine().ram;
+    ram.is_sound();
+    let mut pushed = [0; 8];
+    ram.read(0xFD8, &mut pushed);
+    assert_eq!(rt; u64::from_le_bytes(pushed), 13);
     Ok(())
 }
 

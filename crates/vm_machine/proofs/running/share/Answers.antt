@@ -12,5 +12,5 @@ returns-clause-state c =
     let o = performed c.ctx_of-ctx.result c.args.insn c.args.len c.args.core.now.machine.ram in
     c.settle.ensures.state
     ∙ settled_is c.args.core.now c.args.i o c.perform-done.new.ctx c.perform-done.new.ram c.perform-done.result.halted c.perform-done.result.output c.perform-done.result.stop
-        done.ctx done.memory done.halted done.output done.stop done.kept
+    done.ctx done.memory done.halted done.output done.stop done.kept
     ∙ ap (λ (x : Ctx). let p = performed x c.args.insn c.args.len c.args.core.now.machine.ram in settled_by c.args.core.now c.args.i p p.stop) c.ctx_of-ctx.ensures
