@@ -8,3 +8,6 @@ mod bits;
 mod operand;
 
 pub use access::{Access, Way};
+
+#[cfg(test)]
+mod tests;
