@@ -15,5 +15,8 @@ mod table;
 pub use access::{Access, Way, access_of, is_local, local_has_no_access};
 pub use address::{address_behind, address_of};
 pub use flow::masked_flags;
-pub use operand::{pass, register, set_register, set_value, value_at};
+pub use operand::{pass, register, set_register, set_value, truncated, value_at};
 pub use table::{compute, faults, matches_accumulator, run_local};
+
+#[cfg(test)]
+mod tests;

@@ -6,7 +6,7 @@ ghost use Rattle.x86_op.specs.Operand as spec;
 use vm_law::{Ctx, Loc, Src, Width};
 
 /// The low bits of a number, as many as an operand has.
-pub(crate) fn truncated(width: Width, number: u64) -> u64
+pub fn truncated(width: Width, number: u64) -> u64
     ensures result { result ≡ number % span width }
     ensures fits { result < span width }
 {
