@@ -1,39 +1,8 @@
 //! Arithmetic and bits as a processor does them: each row was run on an Intel Xeon, and the flags that the architecture
-//! leaves undefined were cleared in it. Flags are the six status flags of RFLAGS alone.
-use crate::arithmetic::{alu_done, compare, imul2, imul3, operate, unary_done, unary_faults};
-use crate::bits::{bit, scan, shift};
-use crate::operand::{source_at, value_at};
-use vm_law::{Count, Ctx, Loc, Mem, Op, Src, Width};
-use x86_alu::{AluOp, BitOp};
-
-// RAX, RCX, RDX and RBX, where a row needs no other values.
-const A: u64 = 0x1122334455667788;
-
-const C: u64 = 0x99AABBCCDDEEFF01;
-
-const D: u64 = 0x0102030405060708;
-
-const B: u64 = 0xF0E1D2C3B4A59687;
-
-// The bits of RFLAGS that no row changes: bit 1 and IF.
-const OTHERS: u64 = 0x202;
-
-const AT_M: Mem = Mem {
-    base: None,
-    index: None,
-    scale: 1,
-    disp: 0,
-    rip: false,
-};
-
-// Operation, width, what was read at the operand in memory, RAX to RBX and flags; those after, and the answer.
-type Row = (Op, Width, u64, [u64; 4], u64, [u64; 4], u64, u64);
-
-macro_rules! row {
-    ($op:expr, $width:ident, $m:literal, $before:tt $flags:literal, $after:tt $flags_after:literal, $stored:literal) => {
-        ($op, Width::$width, $m, $before, $flags, $after, $flags_after, $stored)
-    };
-}
+//! leaves undefined were cleared in it.
+use super::{A, AT_M, B, C, D, MOVED_BY, Row, all_done, context, insn_of};
+use crate::{compute, faults, pass};
+use vm_law::{Count, Loc, Op, Src, Width};
 
 static ROWS: [Row; 84] = [
     row!(Op::Alu(0, Loc::Reg(0), Src::Loc(Loc::Reg(1))), B, 0, [A, C, D, B] 0x8D5, [0x1122334455667789, C, D, B] 0x80, 0x89),
@@ -122,61 +91,9 @@ static ROWS: [Row; 84] = [
     row!(Op::Bsr(2, Loc::Reg(2)), Q, 0, [A, C, D, B] 0, [A, C, 0x38, B] 0, 0),
 ];
 
-fn context(registers: [u64; 4], flags: u64) -> Ctx {
-    let [rax, rcx, rdx, rbx] = registers;
-    Ctx {
-        regs: [rax, rcx, rdx, rbx, 4, 5, 6, 7, 8, 9, 10, 11, 12, 13, 14, 15],
-        rip: 0x1003,
-        rflags: flags | OTHERS,
-        idt_base: 0x2000,
-        idt_limit: 0xFFF,
-        shadow: false,
-        nmi_block: true,
-    }
-}
-
-// The group that the operation belongs to does it.
-fn run(ctx: &mut Ctx, width: Width, op: Op, m: u64) -> u64 {
-    match op {
-        Op::Alu(k, loc, src) => return alu_done(ctx, width, m, k, &loc, &src),
-        Op::Test(loc, src) => {
-            let a = value_at(ctx, width, m, &loc);
-            let b = source_at(ctx, width, m, &src);
-            compare(ctx, AluOp::Test, width, a, b);
-        }
-        Op::Unary(k, loc) => return unary_done(ctx, width, m, k, &loc),
-        Op::Inc(loc) => {
-            let a = value_at(ctx, width, m, &loc);
-            return operate(ctx, AluOp::Inc, width, &loc, a, 0);
-        }
-        Op::Dec(loc) => {
-            let a = value_at(ctx, width, m, &loc);
-            return operate(ctx, AluOp::Dec, width, &loc, a, 0);
-        }
-        Op::Imul2(r, loc) => imul2(ctx, width, m, r, &loc),
-        Op::Imul3(r, loc, value) => imul3(ctx, width, m, r, &loc, value),
-        Op::Shift(k, loc, count) => return shift(ctx, width, m, k, &loc, count),
-        Op::Bit(k, loc, src) => return bit(ctx, width, m, k, &loc, &src),
-        Op::Bsf(r, loc) => scan(ctx, BitOp::Bsf, width, m, r, &loc),
-        Op::Bsr(r, loc) => scan(ctx, BitOp::Bsr, width, m, r, &loc),
-        _ => {}
-    }
-    0
-}
-
 #[test]
 fn arithmetic_and_bits_as_a_processor_does_them(rt: HostRuntime) {
-    for (row, &(op, width, m, before, flags, after, flags_after, stored)) in ROWS
-        .iter()
-        .enumerate()
-    {
-        let mut ctx = context(before, flags);
-        let answer = run(&mut ctx, width, op, m);
-        assert!(rt;
-            answer == stored && ctx == context(after, flags_after),
-            "row {row}"
-        );
-    }
+    all_done(&rt, &ROWS);
 }
 
 // Width, DIV 6 or IDIV 7, rAX, divisor in memory, rDX; whether it raises #DE. By the pages of DIV and IDIV.
@@ -214,27 +131,29 @@ static FAULTS: [(Width, u8, u64, u64, u64, bool); 16] = [
 ];
 
 #[test]
-fn a_division_that_faults_leaves_the_context(rt: HostRuntime) {
+fn a_division_that_faults_only_passes(rt: HostRuntime) {
     for (row, &(width, k, rax, by, rdx, want)) in FAULTS.iter().enumerate() {
+        let insn = insn_of(Op::Unary(k, Loc::Mem(AT_M)), width);
         let before = context([rax, C, rdx, B], 0x8D5);
-        assert!(rt;
-            unary_faults(&before, width, by, k, &Loc::Mem(AT_M)) == want,
-            "row {row}"
-        );
+        assert!(rt; faults(&before, &insn, by) == want, "row {row}");
+        let mut passed = before;
+        pass(&mut passed, MOVED_BY);
         let mut ctx = before;
-        let _ = unary_done(&mut ctx, width, by, k, &Loc::Mem(AT_M));
-        assert!(rt; (ctx == before) == want, "row {row}");
+        let _ = compute(&mut ctx, &insn, MOVED_BY, by);
+        assert!(rt; (ctx == passed) == want, "row {row}");
     }
 }
 
 #[test]
 fn no_test_of_a_bit_has_eight_bits(rt: HostRuntime) {
-    let before = context([A, C, D, B], 0x8D5);
     for op in [
         Op::Bit(7, Loc::Reg(0), Src::Imm(3)),
         Op::Bsf(0, Loc::Reg(1)),
     ] {
-        let mut ctx = before;
-        assert!(rt; run(&mut ctx, Width::B, op, 0) == 0 && ctx == before);
+        let mut passed = context([A, C, D, B], 0x8D5);
+        let mut ctx = passed;
+        pass(&mut passed, MOVED_BY);
+        assert!(rt; compute(&mut ctx, &insn_of(op, Width::B), MOVED_BY, 0) == 0);
+        assert!(rt; ctx == passed);
     }
 }
