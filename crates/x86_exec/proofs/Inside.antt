@@ -6,8 +6,8 @@ use Rattle.std.specs.Option.{option_map}
 use Rattle.std.proofs.lemmas.Bool.Decides.{nat_tests}
 use Rattle.vm_bus.specs.declared.area.Area.{Area}
 use Rattle.vm_bus.specs.declared.area.Area.TheVariants as area
-use Rattle.vm_bus.specs.Area.{any_byte, address_of, is_canonical, is_device, is_inside, Window, windows, disk_window, window_of, memory_of, area_of, IsWithin}
-use Rattle.vm_bus.proofs.Ranges.{is_between, meets, any_byte-between, outside_ram, in_code}
+use Rattle.vm_bus.specs.Area.{any_byte, address_of, is_canonical, is_device, is_inside, Window, disk_window, window_of, memory_of, area_of, IsWithin}
+use Rattle.vm_bus.proofs.Ranges.{meets, any_byte-between, outside_ram}
 
 -- a range of some bytes, against the code and the end of memory
 abbrev pub IsPlaced : ℕ → ℕ → ℕ → ℕ → Area → Type 0

@@ -1,8 +1,8 @@
 -- No instruction changes the code part, or how many bytes there are.
-use Rattle.std.proofs.Common.{◌≡◌, ℕ, ◌+◌, ◌^◌, ◌<◌, ◌≤◌, Bool, true, false, List, ◌++◌, length, take, drop, if◌then◌else◌, Option, Some, None, refl, sym, ◌∙◌, arith, length-append, length-drop}
+use Rattle.std.proofs.Common.{◌≡◌, ℕ, ◌+◌, ◌^◌, ◌<◌, ◌≤◌, Bool, true, false, List, ◌++◌, length, take, drop, if◌then◌else◌, Option, Some, None, refl, arith}
 use Rattle.std.proofs.lemmas.List.{take-append-le, take-take, length-take-le}
 use Rattle.std.proofs.lemmas.Grind.{common_steps}
-use Rattle.vm_law.specs.Memory.{Memory, code_of, written}
+use Rattle.vm_law.specs.Memory.{Memory, written}
 use Rattle.byteorder.specs.Endian.{little_bytes}
 use Rattle.byteorder.specs.Numbers.{length-bytes_low_first}
 use Rattle.vm_law.specs.declared.context.Ctx.{Ctx}
@@ -15,11 +15,10 @@ use Rattle.x86_op.specs.declared.access.Way.TheVariants as way
 use Rattle.x86_op.specs.declared.access.Access.{Access}
 use Rattle.x86_op.specs.Table.{computed, faults, matches_accumulator}
 use Rattle.x86_op.specs.Access.{access_of}
-use Rattle.x86_exec.specs.declared.effect.Effect.{Effect}
 use Rattle.x86_exec.specs.declared.reached.Reached.{Reached}
 use Rattle.x86_exec.specs.declared.reached.Reached.TheVariants.{Window, Refused, InMemory}
 use Rattle.x86_exec.specs.Reached.{reached, IsSafe, IsInMemory}
-use Rattle.x86_exec.specs.Shared.{Shared, area_in, is_store, is_plain, done_with, stored_where, compared_in, done_by, done_in, at_device, accessed, done_alone, with_access, loaded, iret, lidt, shared_op, shared}
+use Rattle.x86_exec.specs.Shared.{Shared, area_in, is_store, is_plain, done_with, stored_where, compared_in, done_by, done_in, at_device, accessed, done_alone, with_access, loaded, iret, lidt, shared_op}
 use Rattle.x86_exec.specs.Kept.{KeepsCode, SharedKeepsCode}
 use Rattle.x86_exec.proofs.Bounds.{IsAddress, Bounded, access_bounded}
 use Rattle.x86_exec.proofs.Reaches.{area_safe}

@@ -2,7 +2,6 @@
 use Rattle.std.proofs.Common.{◌≡◌, ℕ, Bool, true, false, Option, Some, None, if◌then◌else◌, refl, sym, subst}
 use Rattle.vm_law.specs.Memory.{Memory}
 use Rattle.vm_law.specs.declared.context.Ctx.{Ctx}
-use Rattle.vm_law.specs.declared.context.Stop.TheVariants as stop
 use Rattle.vm_law.specs.declared.insn.Insn.{Insn}
 use Rattle.vm_law.specs.declared.insn.Op.{Op}
 use Rattle.vm_law.specs.declared.insn.Op.TheVariants as op
@@ -17,7 +16,7 @@ use Rattle.x86_exec.specs.declared.effect.Effect.TheVariants as effect
 use Rattle.x86_exec.specs.declared.reached.Reached.{Reached}
 use Rattle.x86_exec.specs.declared.reached.Reached.TheVariants.{Window, Refused, InMemory}
 use Rattle.x86_exec.specs.Reached.{reached}
-use Rattle.x86_exec.specs.Shared.{Shared, kept, area_in, is_store, is_plain, done_with, stored_where, compared_in, done_by, done_in, at_device, accessed, accessed_at, done_alone, with_access, with_own_access, loaded, iret, iret_here, lidt, lidt_of, shared_op, shared}
+use Rattle.x86_exec.specs.Shared.{Shared, kept, area_in, is_store, done_with, stored_where, compared_in, done_by, done_in, at_device, accessed, done_alone, with_access, loaded, iret, lidt, shared_op}
 use Rattle.x86_exec.specs.Kept.{Leaves, SharedLeaves}
 
 abbrev pub Left : Ctx → Memory → Shared → Type 0

@@ -1,6 +1,6 @@
 -- What stands at an access's address, and what it may do there.
 -- Source: Intel SDM volume 3, section 6.15 (general protection), and volume 1, section 3.3.7.1; the Stops are this machine's own.
-use Rattle.std.specs.Prelude.{◌≡◌, ℕ, ◌+◌, ◌%◌, ◌^◌, ◌<◌, ◌≤◌, Bool, true, false, ◌&&◌, ◌==◌, Some, if◌then◌else◌, length}
+use Rattle.std.specs.Prelude.{◌≡◌, ℕ, ◌+◌, ◌%◌, ◌^◌, ◌<◌, ◌≤◌, Bool, true, ◌&&◌, ◌==◌, Some, if◌then◌else◌, length}
 use Rattle.vm_law.specs.Memory.{Memory}
 use Rattle.vm_law.specs.declared.context.Stop.TheVariants as stop
 use Rattle.vm_bus.specs.declared.area.Area.{Area}

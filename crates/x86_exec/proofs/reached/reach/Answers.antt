@@ -1,5 +1,5 @@
 -- What `area_at` says of the range in numbers is what makes the access safe.
-use Rattle.std.proofs.Common.{◌≡◌, ◌<◌, ◌^◌, length, subst, arith}
+use Rattle.std.proofs.Common.{◌<◌, ◌^◌, length, arith}
 use Rattle.vm_bus.specs.Area.{IsWithin}
 use Rattle.x86_exec.proofs.Reaches.{safe}
 use Rattle.x86_exec.proofs.reached.reach.Goals as goal
