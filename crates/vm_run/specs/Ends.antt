@@ -5,6 +5,8 @@ use Rattle.ckpt_store.specs.declared.loading.LoadFault.TheVariants as loading
 use Rattle.vm_host.specs.declared.host.HostFault.{HostFault}
 use Rattle.vm_host.specs.declared.host.HostFault.TheVariants as host
 use Rattle.vm_host.specs.Counts.{Rose}
+use Rattle.vm_image.specs.declared.error.ImageError.{ImageError}
+use Rattle.vm_image.specs.declared.error.ImageError.TheVariants as image
 use Rattle.vm_journal.specs.declared.fault.JournalError.{JournalError}
 use Rattle.vm_journal.specs.declared.fault.JournalError.TheVariants as journal
 use Rattle.vm_machine.specs.declared.state.Why.{Why}
@@ -35,6 +37,10 @@ after_host host.Memory = Memory
 abbrev pub after_load : LoadFault → Fault
 after_load (loading.Host fault) = after_host fault
 after_load loading.Long = Refused
+
+abbrev pub after_image : ImageError → Fault
+after_image (image.Fault at kind) = Refused
+after_image image.Memory = Memory
 
 abbrev pub after_decode : JournalError → Fault
 after_decode (journal.Fault at kind) = Refused

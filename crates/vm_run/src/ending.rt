@@ -5,6 +5,7 @@ ghost use Rattle.vm_run.specs.Ends.{fault_status};
 use ckpt_store::LoadFault;
 use thiserror::Error;
 use vm_host::HostFault;
+use vm_image::ImageError;
 use vm_journal::JournalError;
 use vm_law::OutOfMemory;
 
@@ -66,6 +67,19 @@ impl From<LoadFault> for Fault {
         match fault {
             LoadFault::Host(fault) => Fault::from(fault),
             LoadFault::Long => Fault::Refused,
+        }
+    }
+}
+
+impl From<ImageError> for Fault {
+    ghost use Rattle.vm_run.specs.Ends.{after_image};
+
+    ghost from_gives = { λ f e. e ≡ after_image f };
+
+    fn from(error: ImageError) -> Fault {
+        match error {
+            ImageError::Fault { .. } => Fault::Refused,
+            ImageError::Memory => Fault::Memory,
         }
     }
 }

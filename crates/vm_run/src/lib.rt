@@ -13,7 +13,6 @@ mod actors;
 mod command;
 mod console;
 mod ending;
-mod image;
 mod journaling;
 mod outcome;
 mod replaying;

@@ -8,12 +8,18 @@ ghost use Rattle.vm_run.specs.Files.{Reads};
 ghost use Rattle.vm_run.specs.Starting as spec;
 
 use crate::ending::Fault;
-use crate::image::{IMAGE_LIMIT, MEMORY_SIZE, parts_of};
 use ckpt_store::load;
 use std::alloc::Global;
 use vm_host::Host;
+use vm_image::read;
 use vm_law::{FlatImage, Order, OutOfMemory, Plan, Script, Seq, Text};
 use vm_machine::{Origin, Start};
+
+/// How many bytes of memory a guest has: 256 MiB.
+const MEMORY_SIZE: u64 = 268_435_456;
+
+/// How many bytes the file of an image has at most: a header of 24, and as many as there are of memory.
+const IMAGE_LIMIT: u64 = 268_435_480;
 
 /// How many instructions a guest may execute.
 const INSTRUCTION_LIMIT: u64 = 10_000_000;
@@ -31,15 +37,7 @@ pub(crate) fn start_from<H: Host>(alloc: Global, host: &mut H, name: &str) -> Re
     ensures files { WhereTold (H.tells host.old) (H.file host.new ≡ H.file host.old) }
 {
     let bytes = load(alloc, host, name, IMAGE_LIMIT)?;
-    let Some(parts) = parts_of(&bytes) else {
-        return Err(Fault::Refused);
-    };
-    let payload = Seq::from_slice(alloc, parts.payload)?;
-    let image = FlatImage {
-        entry: parts.entry,
-        code: parts.code,
-        payload,
-    };
+    let image = read(alloc, &bytes, MEMORY_SIZE)?;
     let start = start_of(alloc, image)?;
     Ok(start)
 }
@@ -66,7 +64,7 @@ fn default_plan(alloc: Global) -> Result<Plan, OutOfMemory>
     let name = Text::from_text(alloc, "")?;
     Ok(Plan {
         cpus: 1,
-        memory: MEMORY_SIZE as u64,
+        memory: MEMORY_SIZE,
         name,
         image: None,
         script: None,

@@ -132,9 +132,9 @@ struct Case {
 #[test]
 fn runs_go_by_rounds(rt: HostRuntime) -> Result<(), Fail> {
     let alloc = rt.alloc();
-    let not_built = Why::Stopped {
+    let no_gate = Why::Stopped {
         cpu: 0,
-        stop: Stop::NotBuilt,
+        stop: Stop::Gate(6),
         rip: 0,
     };
     let cases = [
@@ -173,7 +173,7 @@ fn runs_go_by_rounds(rt: HostRuntime) -> Result<(), Fail> {
             limit: 10_000_000,
             console_fails: false,
             entries: STOPS,
-            why: not_built,
+            why: no_gate,
             executed: 0,
             end: Ok(()),
             taken: b"",
