@@ -1,14 +1,14 @@
 -- Bytes without a fault are the file of an image.
-use Rattle.std.proofs.Common.{◌≡◌, ℕ, suc, ◌-◌, ◌+◌, ◌<◌, ◌≤◌, nat_eq, List, [], ◌∷◌, ◌++◌, length, take, drop, Option, None, Some, Bool, true, false, cond, refl, sym, ap, subst, ◌∙◌, arith, length-drop}
+use Rattle.std.proofs.Common.{◌≡◌, ℕ, suc, ◌+◌, ◌<◌, ◌≤◌, nat_eq, List, [], ◌∷◌, length, take, drop, Option, None, Some, Bool, true, false, cond, refl, sym, subst, ◌∙◌, arith, length-drop}
 use Rattle.std.specs.List.{common_prefix_len}
 use Rattle.std.proofs.lemmas.Grind.{common_steps}
 use Rattle.std.proofs.lemmas.Bool.{eqb-true, eq-eqb, ltb-false, leb-false, le-ltb, lt-leb}
 use Rattle.std.proofs.lemmas.Bool.Decides.{nat_tests}
 use Rattle.vm_law.specs.declared.image.FlatImage.{FlatImage}
-use Rattle.vm_law.specs.Image.{IsImage, IsAllowed, magic}
+use Rattle.vm_law.specs.Image.{IsImage, magic}
 use Rattle.vm_law.proofs.Numbers.{IsBytes}
 use Rattle.vm_image.specs.Fault.{first_fault, magic_begun, entry_in, code_in, payload_size, is_bad_code}
-use Rattle.vm_image.proofs.Images.{image_in, image_read, image_back, ReadsBack}
+use Rattle.vm_image.proofs.Images.{image_in, image_read, image_back}
 
 -- a list that has all of another in common with it begins with that
 begins : (xs ys : List ℕ) → length xs ≤ common_prefix_len nat_eq xs ys → take (length xs) ys ≡ xs

@@ -4,7 +4,7 @@ use Rattle.std.proofs.lemmas.List.{take-append-drop, get_or-drop, drop-drop}
 use Rattle.byteorder.specs.Endian.{little_number, little_bytes}
 use Rattle.byteorder.specs.Numbers.{little_number-reads_back}
 use Rattle.vm_law.specs.declared.image.FlatImage.{FlatImage}
-use Rattle.vm_law.specs.Image.{IsImage, IsAllowed, magic, image_bytes}
+use Rattle.vm_law.specs.Image.{IsImage, magic, image_bytes}
 use Rattle.vm_law.proofs.Numbers.{IsBytes, bytes_of_number}
 use Rattle.vm_image.specs.Fault.{entry_in, code_in}
 

@@ -1,4 +1,4 @@
-use Rattle.std.proofs.Common.{◌≡◌, ◌+◌, ◌-◌, ◌≤◌, nat_eq, length, drop}
+use Rattle.std.proofs.Common.{◌≡◌, ◌+◌, ◌-◌, nat_eq, length, drop}
 use Rattle.std.specs.List.{common_prefix_len}
 use Rattle.vm_image.proofs.reading.common_len.Given as goal
 
