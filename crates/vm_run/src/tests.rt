@@ -4,9 +4,9 @@ use std::sync::Wait;
 use std::test::Fail;
 use std::thread::Threads;
 use vm_host::{MemHost, MemSink, NoGate, Sink, SinkFault};
-use vm_journal::decode;
-use vm_law::Text;
-use vm_machine::Why;
+use vm_law::{OutOfMemory, Text};
+
+mod cases;
 
 /// Writes `A` and halts.
 const FIRST: &[u8] = b"\xBA\xF8\x03\x00\x00\xB0\x41\xEE\xF4";
@@ -26,7 +26,7 @@ fn solo<R: Threads + Wait + Sync, S: Sink>(
     alloc: Global,
     console: &mut S,
     bytes: &[u8],
-) -> Result<u8, vm_law::OutOfMemory> {
+) -> Result<u8, OutOfMemory> {
     let mut host = MemHost::new(alloc);
     host.put(alloc, "a.img", bytes)?;
     let mut log = MemSink::new(alloc);
@@ -205,34 +205,22 @@ fn words_that_are_no_command_are_refused(rt: HostRuntime) -> Result<(), Fail> {
 }
 
 #[test]
-fn refusals_of_host_and_console_have_their_statuses(rt: HostRuntime) -> Result<(), Fail> {
+fn a_command_is_done(rt: HostRuntime) -> Result<(), Fail> {
     let alloc = rt.alloc();
-    let bytes = image(alloc, 0, 9, FIRST)?;
     let command = Command::Solo {
         file: Text::from_text(alloc, "a.img")?,
         journal: None,
     };
     assert_eq!(rt; command.file(), "a.img");
-    for (name, listed, status) in [
-        ("b.img", 9, 7),
-        ("a.img", 0, 6),
-        ("a.img", 1, 6),
-        ("a.img", 2, 0),
-    ] {
-        let mut host = MemHost::new(alloc);
-        host.put(alloc, name, &bytes)?;
-        host.fail(alloc, listed)?;
-        let mut console = MemSink::new(alloc);
-        let mut log = MemSink::new(alloc);
-        let outcome = still_cmd(alloc, &command, &mut host, &mut console, &mut log);
-        assert_eq!(rt; outcome.status, status, "{name} {listed}");
-        assert_eq!(rt; console.taken().len(), if status == 0 { 1 } else { 0 });
-        assert!(rt; log.taken().is_empty());
-    }
+    let bytes = image(alloc, 0, 9, FIRST)?;
+    let mut host = MemHost::new(alloc);
+    host.put(alloc, "a.img", &bytes)?;
     let mut console = MemSink::new(alloc);
-    console.fail(0)?;
-    assert_eq!(rt; solo(&rt, alloc, &mut console, &bytes)?, 9);
-    assert!(rt; console.taken().is_empty());
+    let mut log = MemSink::new(alloc);
+    let outcome = still_cmd(alloc, &command, &mut host, &mut console, &mut log);
+    assert_eq!(rt; outcome.status, 0);
+    assert_eq!(rt; console.taken(), b"A".as_slice());
+    assert!(rt; log.taken().is_empty());
     Ok(())
 }
 
@@ -255,181 +243,4 @@ impl Sink for Narrow {
         let size = piece.len().min(1);
         self.sink.write(&piece[..size])
     }
-}
-
-#[test]
-fn a_console_may_take_a_byte_at_a_time(rt: HostRuntime) -> Result<(), Fail> {
-    let alloc = rt.alloc();
-    let code = b"\xBA\xF8\x03\x00\x00\xB0\x43\xEE\xB0\x42\xEE\xEB\x00\xF4";
-    let bytes = image(alloc, 0, code.len() as u64, code)?;
-    let ends: [(u64, u8, &[u8]); 3] = [(2, 0, b"CB"), (1, 9, b"C"), (0, 9, b"")];
-    for (listed, status, written) in ends {
-        let mut console = Narrow {
-            sink: MemSink::new(alloc),
-        };
-        console.sink.fail(listed)?;
-        assert_eq!(rt;
-            solo(&rt, alloc, &mut console, &bytes)?,
-            status,
-            "call {listed} fails"
-        );
-        assert_eq!(rt; console.sink.taken(), written, "call {listed} fails");
-    }
-    Ok(())
-}
-
-/// What row 1's journal is, byte for byte.
-const JOURNAL: &[u8] =
-    b"\x01VMJRNL1\n\x09\0\0\0\0\0\0\0\x01\0\x01\0\x01\0\x03\0\0\x04\x01\0\x04\0\x02\0\x01\0\x05\0\x01\0\x05\0\0\0\x14\0\0\x01\0\x06\0\x01\0\x09\0\0\0\x16";
-
-/// What words answer over files in memory: the status, how many entries are kept, and what the console took.
-fn answer<R: Threads + Wait + Sync>(
-    rt: &R,
-    alloc: Global,
-    words: &[&str],
-    host: &mut MemHost,
-    console: &mut MemSink,
-) -> (u8, Option<usize>) {
-    let mut log = MemSink::new(alloc);
-    let outcome = vmrun(rt, alloc, words, host, console, &mut log, &NoGate);
-    let entries = match &outcome.kept {
-        Some(kept) => Some(kept.journal.len()),
-        None => None,
-    };
-    (outcome.status, entries)
-}
-
-#[test]
-fn a_journal_is_replayed_or_refused(rt: HostRuntime) -> Result<(), Fail> {
-    let alloc = rt.alloc();
-    let bytes = image(alloc, 0, 9, FIRST)?;
-    // entries 1 and 2 exchanged: an Enter after a Slice
-    let mut exchanged = Vec::new(alloc);
-    exchanged.extend_from_slice(&JOURNAL[..21])?;
-    exchanged.extend_from_slice(b"\x01\0\x04\0\x02\0\x01\0\x03\0\0\x04")?;
-    exchanged.extend_from_slice(&JOURNAL[33..])?;
-    let mut longer = Vec::new(alloc);
-    longer.extend_from_slice(JOURNAL)?;
-    longer.push(0)?;
-    assert!(rt; JOURNAL.len() == 57 && exchanged.len() == 57);
-    // (journal, status, entries kept, console)
-    let cases: [(&[u8], u8, usize, &[u8]); 7] = [
-        (JOURNAL, 0, 9, b"A"),
-        (b"\x01VMJRNL1\n\0\0\0\0\0\0\0\0", 0, 0, b""),
-        (&JOURNAL[..56], 3, 0, b""),
-        (&JOURNAL[1..], 3, 0, b""),
-        (b"", 3, 0, b""),
-        (&longer, 3, 0, b""),
-        (&exchanged, 3, 1, b""),
-    ];
-    for (journal, status, entries, written) in cases {
-        let mut host = MemHost::new(alloc);
-        host.put(alloc, "a.img", &bytes)?;
-        host.put(alloc, "j", journal)?;
-        let mut console = MemSink::new(alloc);
-        let words = ["replay", "a.img", "j"];
-        let (got, kept) = answer(&rt, alloc, &words, &mut host, &mut console);
-        assert_eq!(rt; got, status, "{journal:?}");
-        assert!(rt; kept == Some(entries), "{journal:?}");
-        assert_eq!(rt; console.taken(), written, "{journal:?}");
-    }
-    Ok(())
-}
-
-#[test]
-fn each_call_of_a_replay_may_fail(rt: HostRuntime) -> Result<(), Fail> {
-    let alloc = rt.alloc();
-    let bytes = image(alloc, 0, 9, FIRST)?;
-    // the image is read by calls 0 and 1, the journal by 2 and 3
-    let cases = [
-        (0, 6, None),
-        (1, 6, None),
-        (2, 6, Some(0)),
-        (3, 6, Some(0)),
-        (4, 0, Some(9)),
-    ];
-    for (call, status, entries) in cases {
-        let mut host = MemHost::new(alloc);
-        host.put(alloc, "a.img", &bytes)?;
-        host.put(alloc, "j", JOURNAL)?;
-        host.fail(alloc, call)?;
-        let mut console = MemSink::new(alloc);
-        let words = ["replay", "a.img", "j"];
-        let (got, kept) = answer(&rt, alloc, &words, &mut host, &mut console);
-        assert!(rt; got == status && kept == entries, "call {call}");
-        assert_eq!(rt; console.taken().len(), if status == 0 { 1 } else { 0 });
-    }
-    // words, and what they answer where `j` isn't there
-    let others: [(&[&str], u8, Option<usize>); 4] = [
-        (&["replay", "a.img", "j"], 7, Some(0)),
-        (&["replay", "b.img", "a.img"], 7, None),
-        (&["replay", "a.img", "a.img"], 3, None),
-        (&["solo", "a.img", "--journal", "a.img"], 3, None),
-    ];
-    for (words, status, entries) in others {
-        let mut host = MemHost::new(alloc);
-        host.put(alloc, "a.img", &bytes)?;
-        let mut console = MemSink::new(alloc);
-        let (got, kept) = answer(&rt, alloc, words, &mut host, &mut console);
-        assert!(rt; got == status && kept == entries, "{words:?}");
-        assert!(rt; console.taken().is_empty());
-    }
-    let mut host = MemHost::new(alloc);
-    host.put(alloc, "a.img", &bytes)?;
-    host.put(alloc, "j", JOURNAL)?;
-    let mut console = MemSink::new(alloc);
-    console.fail(0)?;
-    let (got, kept) = answer(
-        &rt,
-        alloc,
-        &["replay", "a.img", "j"],
-        &mut host,
-        &mut console,
-    );
-    assert!(rt; got == 9 && kept == Some(9) && console.taken().is_empty());
-    Ok(())
-}
-
-#[test]
-fn a_run_writes_its_journal(rt: HostRuntime) -> Result<(), Fail> {
-    let alloc = rt.alloc();
-    let bytes = image(alloc, 0, 9, FIRST)?;
-    let words = ["solo", "a.img", "--journal", "j"];
-    // the image is read by calls 0 and 1; the journal's file is made, and then written and synced three times
-    for call in 0..10 {
-        let mut host = MemHost::new(alloc);
-        host.put(alloc, "a.img", &bytes)?;
-        host.fail(alloc, call)?;
-        let mut console = MemSink::new(alloc);
-        let (got, kept) = answer(&rt, alloc, &words, &mut host, &mut console);
-        let status = if call < 9 { 6 } else { 0 };
-        let entries = if call < 2 { None } else { Some(9) };
-        assert!(rt; got == status && kept == entries, "call {call}");
-        assert_eq!(rt; console.taken().len(), if call < 2 { 0 } else { 1 });
-        if status == 0 {
-            assert!(rt; host.file("j") == Some(JOURNAL));
-        }
-    }
-    // A console that fails at its first byte: the run closes by the failure outside, and its journal is written.
-    let mut host = MemHost::new(alloc);
-    host.put(alloc, "a.img", &bytes)?;
-    let mut console = MemSink::new(alloc);
-    console.fail(0)?;
-    let mut log = MemSink::new(alloc);
-    let outcome = vmrun(
-        &rt,
-        alloc,
-        &words,
-        &mut host,
-        &mut console,
-        &mut log,
-        &NoGate,
-    );
-    assert!(rt; outcome.status == 9 && console.taken().is_empty());
-    let kept = outcome.kept.ok_or("the run is kept")?;
-    assert!(rt; kept.run.ended() == Some(Why::Outside) && kept.run.closed());
-    let file = host.file("j").ok_or("the journal is written")?;
-    let saved = decode(alloc, file).map_err(|_| "the journal is read")?;
-    assert!(rt; saved.as_slice() == kept.journal.as_slice());
-    Ok(())
 }
