@@ -2,8 +2,8 @@
 //!
 //! [`read`] answers the script that a text spells, or the first faulty line with the first kind of fault that it has.
 //! [`print`] writes a script in the one spelling that vmrun uses itself, and [`a_print_reads_as_itself`] is the law that joins
-//! the two. Lines follow bhyve_config(5): blank lines and lines
-//! that begin with `#` are skipped, and spaces and tabs before a line's text are dropped. The orders are this project's own.
+//! the two. Lines follow bhyve_config(5): blank lines and lines that begin with `#` are skipped, and spaces and tabs before a
+//! line's text are dropped. The orders are this project's own.
 #![tactic(auto)]
 
 mod fault;
