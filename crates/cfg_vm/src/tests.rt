@@ -1,6 +1,7 @@
 use crate::{PlanError, PlanKind, plan};
 use cfg_text::read;
 use std::alloc::Global;
+use std::test::Fail;
 use vm_law::{Plan, Text};
 
 /// What a configuration plans: the plan, or the first variable that is refused and why.
@@ -33,49 +34,100 @@ fn is_refused(alloc: Global, text: &[u8], name: &str, why: PlanKind) -> bool {
     }
 }
 
+/// Configurations that are refused, with the variable that is told and what is wrong with it.
+const REFUSED: [(&[u8], &str, PlanKind); 16] = [
+    (b"flat.image=a\ncpus=0\n", "cpus", PlanKind::Range),
+    (b"cpus=17\nflat.image=a\n", "cpus", PlanKind::Range),
+    (b"cpus=\n", "cpus", PlanKind::Number),
+    (b"cpus=+1\nmemory.size=x\n", "cpus", PlanKind::Number),
+    (b"cpus=99999999999999999999\n", "cpus", PlanKind::Range),
+    (b"memory.size=512K\n", "memory.size", PlanKind::Range),
+    (b"memory.size=2G\n", "memory.size", PlanKind::Range),
+    (b"memory.size=1048577\n", "memory.size", PlanKind::Range),
+    (
+        b"memory.size=1000000000000000000\n",
+        "memory.size",
+        PlanKind::Number,
+    ),
+    (b"memory.size=M\n", "memory.size", PlanKind::Number),
+    (b"flat.image=\n", "flat.image", PlanKind::Path),
+    (b"cpus=2\n", "flat.image", PlanKind::Path),
+    (
+        b"flat.image=a\nflat.script=\n",
+        "flat.script",
+        PlanKind::Path,
+    ),
+    (
+        b"pci.0.3.0.device=virtio-blk\n",
+        "pci.0.3.0.path",
+        PlanKind::Path,
+    ),
+    (
+        b"pci.0.3.0.device=virtio-blk\npci.0.3.0.path=d\npci.0.3.0.ro=maybe",
+        "pci.0.3.0.ro",
+        PlanKind::Boolean,
+    ),
+    (
+        b"pci.0.3.0.device=virtio-blk\npci.0.3.0.path=d\npci.0.3.0.workers=9",
+        "pci.0.3.0.workers",
+        PlanKind::Range,
+    ),
+];
+
+/// More of them: each kind again, at first, middle and last lines.
+const REFUSED_AT_ENDS: [(&[u8], &str, PlanKind); 9] = [
+    (b"cpus=2k\r\nflat.image=a\r\n", "cpus", PlanKind::Number),
+    (
+        b"flat.image=a\r\nmemory.size=1T\r\ncpus=1",
+        "memory.size",
+        PlanKind::Number,
+    ),
+    (
+        b"pci.1.2.3.path=d\npci.1.2.3.device=virtio-blk\npci.1.2.3.workers=",
+        "pci.1.2.3.workers",
+        PlanKind::Number,
+    ),
+    (
+        b"pci.1.2.3.workers=0\r\npci.1.2.3.path=d\r\npci.1.2.3.device=virtio-blk\r\n",
+        "pci.1.2.3.workers",
+        PlanKind::Range,
+    ),
+    (
+        b"cpus=4\nmemory.size=4097\n",
+        "memory.size",
+        PlanKind::Range,
+    ),
+    (
+        b"pci.1.2.3.ro=2\npci.1.2.3.path=d\npci.1.2.3.device=virtio-blk\n",
+        "pci.1.2.3.ro",
+        PlanKind::Boolean,
+    ),
+    (
+        b"pci.1.2.3.path=d\r\npci.1.2.3.ro=\r\npci.1.2.3.device=virtio-blk",
+        "pci.1.2.3.ro",
+        PlanKind::Boolean,
+    ),
+    (
+        b"pci.0.3.0.path=\r\npci.0.3.0.device=virtio-blk\r\n",
+        "pci.0.3.0.path",
+        PlanKind::Path,
+    ),
+    (b"cpus=1\nflat.image=", "flat.image", PlanKind::Path),
+];
+
+fn are_refused(alloc: Global, rows: &[(&[u8], &str, PlanKind)]) -> bool {
+    for (text, name, why) in rows {
+        if !is_refused(alloc, *text, *name, *why) {
+            return false;
+        }
+    }
+    true
+}
+
 #[test]
 fn first_refusals(rt: HostRuntime) {
-    let rows: [(&[u8], &str, PlanKind); 16] = [
-        (b"flat.image=a\ncpus=0\n", "cpus", PlanKind::Range),
-        (b"cpus=17\nflat.image=a\n", "cpus", PlanKind::Range),
-        (b"cpus=\n", "cpus", PlanKind::Number),
-        (b"cpus=+1\nmemory.size=x\n", "cpus", PlanKind::Number),
-        (b"cpus=99999999999999999999\n", "cpus", PlanKind::Range),
-        (b"memory.size=512K\n", "memory.size", PlanKind::Range),
-        (b"memory.size=2G\n", "memory.size", PlanKind::Range),
-        (b"memory.size=1048577\n", "memory.size", PlanKind::Range),
-        (
-            b"memory.size=1000000000000000000\n",
-            "memory.size",
-            PlanKind::Number,
-        ),
-        (b"memory.size=M\n", "memory.size", PlanKind::Number),
-        (b"flat.image=\n", "flat.image", PlanKind::Path),
-        (b"cpus=2\n", "flat.image", PlanKind::Path),
-        (
-            b"flat.image=a\nflat.script=\n",
-            "flat.script",
-            PlanKind::Path,
-        ),
-        (
-            b"pci.0.3.0.device=virtio-blk\n",
-            "pci.0.3.0.path",
-            PlanKind::Path,
-        ),
-        (
-            b"pci.0.3.0.device=virtio-blk\npci.0.3.0.path=d\npci.0.3.0.ro=maybe",
-            "pci.0.3.0.ro",
-            PlanKind::Boolean,
-        ),
-        (
-            b"pci.0.3.0.device=virtio-blk\npci.0.3.0.path=d\npci.0.3.0.workers=9",
-            "pci.0.3.0.workers",
-            PlanKind::Range,
-        ),
-    ];
-    for (text, name, why) in &rows {
-        assert!(rt; is_refused(rt.alloc(), *text, *name, *why));
-    }
+    assert!(rt; are_refused(rt.alloc(), &REFUSED));
+    assert!(rt; are_refused(rt.alloc(), &REFUSED_AT_ENDS));
 }
 
 /// Whether a plan has these disks (path, read-only, workers) and leaves these variables out.
@@ -210,7 +262,60 @@ fn at_most_eight_disks(rt: HostRuntime) {
         Outcome::Fault(_, _) => assert!(rt; false),
         Outcome::Other => assert!(rt; false),
     }
-    let nine =
-        b"pci.9.0.0.device=virtio-blk\npci.1.0.0.device=virtio-blk\npci.1.0.0.path=1\npci.2.0.0.device=virtio-blk\npci.2.0.0.path=2\npci.3.0.0.device=virtio-blk\npci.3.0.0.path=3\npci.4.0.0.device=virtio-blk\npci.4.0.0.path=4\npci.5.0.0.device=virtio-blk\npci.5.0.0.path=5\npci.6.0.0.device=virtio-blk\npci.6.0.0.path=6\npci.7.0.0.device=virtio-blk\npci.7.0.0.path=7\npci.8.0.0.device=virtio-blk\npci.8.0.0.path=8\n";
-    assert!(rt; is_refused(rt.alloc(), nine, "pci.9.0.0.device", PlanKind::Many));
+}
+
+// A configuration with a disk at slot 1 and at each later one before `end`, after other lines and before other ones.
+fn many_disks(alloc: Global, first: &str, end: u32, more: &str) -> Result<String, Fail> {
+    let mut text = String::from_str(alloc, first)?;
+    for slot in 1..end {
+        write!(
+            &mut text,
+            "pci.0.{slot}.0.device=virtio-blk\npci.0.{slot}.0.path={slot}\n"
+        )?;
+    }
+    text.push_str(more)?;
+    Ok(text)
+}
+
+/// Disks by `many_disks`: the first variable that is refused and why.
+const MANY: [(&str, u32, &str, &str, PlanKind); 6] = [
+    ("", 10, "", "pci.0.9.0.device", PlanKind::Many),
+    ("", 13, "flat.image=a\n", "pci.0.9.0.device", PlanKind::Many),
+    (
+        "pci.9.0.0.device=virtio-blk\r\n",
+        9,
+        "",
+        "pci.9.0.0.device",
+        PlanKind::Many,
+    ),
+    (
+        "",
+        9,
+        "pci.0.0.0.device=virtio-blk\npci.0.0.0.path=0",
+        "pci.0.8.0.device",
+        PlanKind::Many,
+    ),
+    (
+        "",
+        10,
+        "pci.0.9.0.path=\npci.0.8.0.ro=x\n",
+        "pci.0.8.0.ro",
+        PlanKind::Boolean,
+    ),
+    (
+        "pci.0.9.0.workers=9\n",
+        10,
+        "",
+        "pci.0.9.0.device",
+        PlanKind::Many,
+    ),
+];
+
+#[test]
+fn the_ninth_disk_is_refused(rt: HostRuntime) -> Result<(), Fail> {
+    for (first, end, more, name, why) in MANY {
+        let text = many_disks(rt.alloc(), first, end, more)?;
+        assert!(rt; is_refused(rt.alloc(), text.as_bytes(), name, why));
+    }
+    Ok(())
 }

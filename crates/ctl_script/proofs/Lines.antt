@@ -15,13 +15,13 @@ use Rattle.ctl_script.specs.Script.{Fault, read_line, read_lines, then_lines}
 
 -- ---- lines
 
-split_some : (text : List ℕ) → (p : List ℕ) × (ps : List (List ℕ)) × (slice_split is_feed text ≡ p ∷ ps)
-split_some [] = ([], [], refl)
-split_some (b ∷ text) = go (is_feed b) (split_some text)
+pub split_some : (p : ℕ → Bool) (text : List ℕ) → (x : List ℕ) × (xs : List (List ℕ)) × (slice_split p text ≡ x ∷ xs)
+split_some p [] = ([], [], refl)
+split_some p (b ∷ text) = go (p b) (split_some p text)
   where
-    go : (t : Bool) → ((p : List ℕ) × (ps : List (List ℕ)) × (slice_split is_feed text ≡ p ∷ ps))
-        → (p : List ℕ) × (ps : List (List ℕ)) × (cond t ([] ∷ slice_split is_feed text) (onto_first b (slice_split is_feed text)) ≡ p ∷ ps)
-    go true s = ([], slice_split is_feed text, refl)
+    go : (t : Bool) → ((x : List ℕ) × (xs : List (List ℕ)) × (slice_split p text ≡ x ∷ xs))
+        → (x : List ℕ) × (xs : List (List ℕ)) × (cond t ([] ∷ slice_split p text) (onto_first b (slice_split p text)) ≡ x ∷ xs)
+    go true s = ([], slice_split p text, refl)
     go false s = (b ∷ s.0, s.1, ap (onto_first b) s.2)
 
 not_feed : (b : ℕ) → (b ≡ 10 → ⊥) → is_feed b ≡ false
@@ -35,7 +35,7 @@ first_is text line rest i lt before at line-is rest-is =
     let feed : is_feed 10 ≡ true = refl in
     let parts : text ≡ take i text ++ 10 ∷ drop (suc i) text = sym (take-append-drop i text) ∙ ap (λ (r : List ℕ). take i text ++ r) (drop-cons text i 0 lt ∙ ap (λ (b : ℕ). b ∷ drop (suc i) text) at) in
     let cut : slice_split is_feed text ≡ take i text ∷ slice_split is_feed (drop (suc i) text) = ap (slice_split is_feed) parts ∙ slice_split_at is_feed (take i text) 10 (drop (suc i) text) none feed in
-    let more = split_some (drop (suc i) text) in
+    let more = split_some is_feed (drop (suc i) text) in
     rw (cut, line-is, rest-is, add-one, more.2) refl
 
 pub only_line : (text : List ℕ) → ((k : ℕ) → k < length text → get_or text k 0 ≡ 10 → ⊥) → lines text ≡ text ∷ []

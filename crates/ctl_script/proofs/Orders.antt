@@ -17,11 +17,11 @@ use Rattle.ctl_script.specs.Order.{Reading, need, on_cpu, order_of, one_word, tw
 use Rattle.ctl_script.specs.Script.{Fault, added, is_small, read_text, read_line, read_lines, then_lines, whole, script_of, situation}
 use Rattle.ctl_script.specs.Print.{has_registers}
 
-if_ok : {X E : Type 0} (P : X → Type 0) (t : Bool) (a b : Result X E) → IfOk a P → IfOk b P → IfOk (cond t a b) P
+pub if_ok : {X E : Type 0} (P : X → Type 0) (t : Bool) (a b : Result X E) → IfOk a P → IfOk b P → IfOk (cond t a b) P
 if_ok P true a b ha hb = ha
 if_ok P false a b ha hb = hb
 
-need_ok : {A : Type 0} (P : Order → Type 0) (fault : ScriptKind) (o : Option A) (next : A → Reading) → ((x : A) → o ≡ Some x → IfOk (next x) P) → IfOk (need fault o next) P
+pub need_ok : {A : Type 0} (P : Order → Type 0) (fault : ScriptKind) (o : Option A) (next : A → Reading) → ((x : A) → o ≡ Some x → IfOk (next x) P) → IfOk (need fault o next) P
 need_ok P fault None next h = tt
 need_ok P fault (Some x) next h = h x refl
 

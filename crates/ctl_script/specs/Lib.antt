@@ -1,4 +1,5 @@
 pub mod Answers
+pub mod Law
 pub mod Line
 pub mod Numeral
 pub mod Order
