@@ -1,20 +1,23 @@
+//! What an instruction asks of the machine around its vCPU.
 use vm_bus::Area;
 use vm_law::{Stop, Width};
 
 /// What an instruction asks of the machine around its vCPU.
+///
+/// Source: Intel SDM volume 3, section 6.15, and volume 2, IN, OUT, HLT and INT.
 #[derive(Clone, Copy, Debug, PartialEq, Eq)]
 pub enum Effect {
     /// Nothing: it is done.
     Done,
     /// HLT: it is done, and the vCPU waits for an interrupt.
     Halt,
-    /// The delivery of an exception or a software interrupt, with its error code where it has one.
+    /// The delivery of an exception (#DE 0, #UD 6, #GP 13) or of INT's vector, with its error code where it has one.
     Trap { vector: u8, error: Option<u64> },
-    /// It can't be done.
+    /// It can't be done, and has changed nothing.
     Stop(Stop),
-    /// A number from a port, for `complete`.
+    /// A number of 8, 16 or 32 bits from a port, for `complete`.
     PortIn { port: u16, width: Width },
-    /// A number for a port: it is done otherwise.
+    /// A number of 8, 16 or 32 bits for a port: it is done otherwise.
     PortOut { port: u16, width: Width, value: u32 },
     /// A number of 32 bits from a device's window, for `complete`.
     Load { area: Area },

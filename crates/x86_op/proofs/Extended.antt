@@ -1,5 +1,5 @@
 -- A value with its sign, from one width to another.
-use Rattle.std.proofs.Common.{◌≡◌, ℕ, ◌+◌, ◌-◌, ◌%◌, ◌^◌, ◌<◌, ◌≤◌, true, false, negsuc, pos, ℤ, refl, sym, ap, ◌∙◌, arith}
+use Rattle.std.proofs.Common.{◌≡◌, ℕ, ◌+◌, ◌-◌, ◌%◌, ◌^◌, ◌<◌, ◌≤◌, true, false, ℤ, sym, ap, ◌∙◌, arith}
 use Rattle.vm_law.specs.declared.insn.Width.{Width}
 use Rattle.vm_law.specs.declared.insn.Width.TheVariants.{B, W, D, Q}
 use Rattle.x86_alu.specs.Operand.{span, is_negative, residue}

@@ -83,10 +83,10 @@ pub(crate) fn call(ctx: &mut Ctx, by: i32) -> u64
     ensures ctx { ctx.new ≡ (spec.call_done ctx.old by).ctx }
     ensures stored { result ≡ (spec.call_done ctx.old by).stored }
 {
-    let next = ctx.rip;
+    let back = ctx.rip;
     move_stack(ctx, DOWN);
     jump(ctx, by);
-    next
+    back
 }
 
 /// CALL of a register, which is read before RSP moves.

@@ -1,4 +1,5 @@
-//! Operands: registers, immediates, and the value at the operand in memory.
+//! Operands: registers, immediates, and the value at the operand in memory. A result of 32 bits clears the upper half of
+//! its register, one of 8 or 16 bits leaves the rest. Source: Intel SDM volume 1, sections 3.4.1 and 3.4.1.1.
 ghost use Rattle.std.specs.Prelude.{◌≡◌, ◌%◌, ◌^◌, ◌<◌};
 ghost use Rattle.x86_alu.specs.Operand.{span};
 ghost use Rattle.x86_op.specs.Operand as spec;
@@ -6,7 +7,7 @@ ghost use Rattle.x86_op.specs.Operand as spec;
 use vm_law::{Ctx, Loc, Src, Width};
 
 /// The low bits of a number, as many as an operand has.
-pub(crate) fn truncated(width: Width, number: u64) -> u64
+pub fn truncated(width: Width, number: u64) -> u64
     ensures result { result ≡ number % span width }
     ensures fits { result < span width }
 {
@@ -18,7 +19,8 @@ pub(crate) fn truncated(width: Width, number: u64) -> u64
     }
 }
 
-/// A general register by its number. There is none above 15, and such a one reads as 0.
+/// A general register by its number, 0 to 15. A greater number has no register, and reads as 0.
+/// Source: Intel SDM volume 1, section 3.4.1.
 #[tactic(auto, unfolding(crate::specs::Operand::register))]
 pub fn register(ctx: &Ctx, r: u8) -> u64
     ensures { result ≡ spec.register ctx.now r }
@@ -26,7 +28,8 @@ pub fn register(ctx: &Ctx, r: u8) -> u64
     if r < 16 { ctx.regs[usize::from(r)] } else { 0 }
 }
 
-/// Writes a general register. One above 15 is left out.
+/// Writes a general register by its number, 0 to 15. With a greater number nothing is written.
+/// Source: Intel SDM volume 1, section 3.4.1.
 #[tactic(auto, unfolding(crate::specs::Operand::with_register))]
 pub fn set_register(ctx: &mut Ctx, r: u8, value: u64)
     ensures { ctx.new ≡ spec.with_register ctx.old r value }
@@ -67,7 +70,8 @@ pub(crate) fn immediate(width: Width, value: i64) -> u64
     truncated(width, value.cast_unsigned())
 }
 
-/// The value of an operand; `m` is what was read at the operand in memory.
+/// The value of an operand of `width`; `m` is what was read at the operand in memory, where it is there.
+/// Source: Intel SDM volume 1, section 3.4.1.1.
 #[tactic(auto, unfolding(crate::specs::Operand::value_at))]
 pub fn value_at(ctx: &Ctx, width: Width, m: u64, loc: &Loc) -> u64
     ensures result { result ≡ spec.value_at ctx.now width m loc.now }
@@ -92,7 +96,9 @@ pub(crate) fn source_at(ctx: &Ctx, width: Width, m: u64, src: &Src) -> u64
     }
 }
 
-/// Writes a result into its register. One for memory is stored by the caller.
+/// Writes a result of `width` into its register: 32 bits clear the upper half, 8 and 16 bits leave the rest, and a result
+/// for AH, CH, DH or BH goes to bits 8 to 15. One for memory is for the caller to store, and changes nothing here.
+/// Source: Intel SDM volume 1, section 3.4.1.1.
 #[tactic(auto, unfolding(crate::specs::Operand::with_value))]
 pub fn set_value(ctx: &mut Ctx, width: Width, loc: &Loc, value: u64)
     requires { value < span width }

@@ -1,0 +1,106 @@
+-- Where a range is, by what stands there: a range in memory ends inside it, and one in RAM is behind the code.
+use Rattle.std.specs.Prelude.{nat_lt, nat_le, unwrap_or, find}
+use Rattle.std.proofs.Common.{◌≡◌, ℕ, zero, suc, ◌+◌, ◌-◌, ◌^◌, ◌<◌, ◌≤◌, Bool, true, false, not, ◌||◌, cond, List, [], ◌∷◌, map, Option, Some, None, if◌then◌else◌, refl, sym, ◌∙◌, arith}
+use Rattle.std.specs.List.{range_with_len}
+use Rattle.std.specs.Option.{option_map}
+use Rattle.std.proofs.lemmas.Bool.Decides.{nat_tests}
+use Rattle.vm_bus.specs.declared.area.Area.{Area}
+use Rattle.vm_bus.specs.declared.area.Area.TheVariants as area
+use Rattle.vm_bus.specs.Area.{any_byte, address_of, is_canonical, is_device, is_inside, Window, disk_window, window_of, memory_of, area_of, IsWithin}
+use Rattle.vm_bus.proofs.Ranges.{meets, any_byte-between, outside_ram}
+
+-- a range of some bytes, against the code and the end of memory
+abbrev pub IsPlaced : ℕ → ℕ → ℕ → ℕ → Area → Type 0
+IsPlaced at len code ram area.Ram = (code ≤ at) × (at + len ≤ ram)
+IsPlaced at len code ram area.Code = at + len ≤ ram
+IsPlaced at len code ram (area.Lapic offset) = Unit {0}
+IsPlaced at len code ram (area.Ioapic offset) = Unit {0}
+IsPlaced at len code ram (area.Disk k offset) = Unit {0}
+IsPlaced at len code ram area.Noncanonical = Unit {0}
+IsPlaced at len code ram area.Split = Unit {0}
+IsPlaced at len code ram area.Nothing = Unit {0}
+
+pub placed-within : (at len code ram : ℕ) (x : Area) → 0 < len → IsWithin at len code ram x → IsPlaced at len code ram x
+placed-within at len code ram area.Ram some within = within some
+placed-within at len code ram area.Code some within = within some
+placed-within at len code ram (area.Lapic offset) some within = tt
+placed-within at len code ram (area.Ioapic offset) some within = tt
+placed-within at len code ram (area.Disk k offset) some within = tt
+placed-within at len code ram area.Noncanonical some within = tt
+placed-within at len code ram area.Split some within = tt
+placed-within at len code ram area.Nothing some within = tt
+
+ends_in_ram : (at len ram : ℕ) → at < 2 ^ 64 → len ≤ 2 ^ 64 → ram < 2 ^ 64 → 0 < len → any_byte (λ a. nat_le ram a) at len ≡ false → at + len ≤ ram
+ends_in_ram at len ram fits short size some none =
+    let e : meets at len ram 0xFFFFFFFFFFFFFFFF ≡ false = sym (any_byte-between at len ram 0xFFFFFFFFFFFFFFFF fits short (omega arith) (omega arith)) ∙ sym (outside_ram at len ram) ∙ none in
+    grind (arith, nat_tests)
+
+left_of : (a b : Bool) → (a || b) ≡ false → a ≡ false
+left_of a b e = grind (arith, nat_tests)
+
+first_byte : (test : ℕ → Bool) (at k : ℕ) → any_byte test at (suc k) ≡ false → test (address_of at 0) ≡ false
+unfolding any_byte
+first_byte test at zero none = none
+first_byte test at (suc k) none = first_byte test at k (left_of _ _ none)
+
+behind_code : (at len code : ℕ) → at < 2 ^ 64 → 0 < len → any_byte (λ a. nat_lt a code) at len ≡ false → code ≤ at
+behind_code at zero code fits some none = absurd (omega arith)
+behind_code at (suc k) code fits some none =
+    let e = first_byte (λ a. nat_lt a code) at k none in
+    grind (arith, nat_tests)
+
+memory_placed : (at len code ram : ℕ) (b d : Bool) → at < 2 ^ 64 → len ≤ 2 ^ 64 → ram < 2 ^ 64 → 0 < len
+    → any_byte (λ a. nat_le ram a) at len ≡ b → any_byte (λ a. nat_lt a code) at len ≡ d
+    → IsPlaced at len code ram (if b then area.Nothing else (if d then area.Code else area.Ram))
+memory_placed at len code ram true d fits short size some e f = tt
+memory_placed at len code ram false true fits short size some e f = ends_in_ram at len ram fits short size some e
+memory_placed at len code ram false false fits short size some e f =
+    let inside = ends_in_ram at len ram fits short size some e in
+    (behind_code at len code fits some f, inside)
+
+memory_of_placed : (at len code ram : ℕ) → at < 2 ^ 64 → len ≤ 2 ^ 64 → ram < 2 ^ 64 → 0 < len → IsPlaced at len code ram (memory_of at len code ram)
+unfolding memory_of
+memory_of_placed at len code ram fits short size some = memory_placed at len code ram _ _ fits short size some refl refl
+
+OrPlaced : ℕ → ℕ → ℕ → ℕ → Option Area → Type 0
+OrPlaced at len code ram None = Unit {0}
+OrPlaced at len code ram (Some x) = IsPlaced at len code ram x
+
+-- the window that is found, if its area is placed wherever it is
+found_next : (at len code ram : ℕ) (w : Window) (ws : List Window) → ((k : ℕ) → IsPlaced at len code ram (w.area k))
+    → OrPlaced at len code ram (option_map (λ v. v.area (at - v.base)) (find (λ v. is_inside v at len) ws))
+    → OrPlaced at len code ram (option_map (λ v. v.area (at - v.base)) (find (λ v. is_inside v at len) (w ∷ ws)))
+unfolding OrPlaced
+found_next at len code ram w ws here rest =
+    elim (is_inside w at len) as (λ b. OrPlaced at len code ram (option_map (λ v. v.area (at - v.base)) (cond b (Some w) (find (λ v. is_inside v at len) ws))))
+    [ true ↦ here (at - w.base) | false ↦ rest ]
+
+disks_placed : (at len code ram : ℕ) (ks : List ℕ) → OrPlaced at len code ram (option_map (λ v. v.area (at - v.base)) (find (λ v. is_inside v at len) (map disk_window ks)))
+unfolding OrPlaced
+disks_placed at len code ram [] = tt
+disks_placed at len code ram (k ∷ ks) = found_next at len code ram (disk_window k) (map disk_window ks) (λ o. tt) (disks_placed at len code ram ks)
+
+window_placed : (at len code ram : ℕ) → OrPlaced at len code ram (window_of at len)
+unfolding window_of
+window_placed at len code ram =
+    let lapic : Window = record { base = 0xFEE00000; area = area.Lapic } in
+    let ioapic : Window = record { base = 0xFEC00000; area = area.Ioapic } in
+    let disks : List Window = map disk_window (range_with_len 0 8) in
+    found_next at len code ram lapic (ioapic ∷ disks) (λ o. tt)
+    (found_next at len code ram ioapic disks (λ o. tt) (disks_placed at len code ram (range_with_len 0 8)))
+
+or_placed : (at len code ram : ℕ) (x : Option Area) (y : Area) → OrPlaced at len code ram x → IsPlaced at len code ram y → IsPlaced at len code ram (unwrap_or x y)
+unfolding OrPlaced
+or_placed at len code ram None y p q = q
+or_placed at len code ram (Some x) y p q = p
+
+chosen : (P : Area → Type 0) (b : Bool) (x y : Area) → P x → P y → P (if b then x else y)
+chosen P true x y p q = p
+chosen P false x y p q = q
+
+pub area_placed : (at len code ram : ℕ) → at < 2 ^ 64 → len ≤ 2 ^ 64 → ram < 2 ^ 64 → 0 < len → IsPlaced at len code ram (area_of at len code ram)
+unfolding area_of
+area_placed at len code ram fits short size some =
+    let rest = chosen (IsPlaced at len code ram) (any_byte is_device at len) area.Split (memory_of at len code ram) tt (memory_of_placed at len code ram fits short size some) in
+    chosen (IsPlaced at len code ram) (any_byte (λ a. not (is_canonical a)) at len) area.Noncanonical _ tt
+    (or_placed at len code ram (window_of at len) _ (window_placed at len code ram) rest)

@@ -1,0 +1,85 @@
+//! The instructions, and their completion.
+ghost use Rattle.std.specs.Prelude.{◌≡◌, ◌%◌};
+ghost use Rattle.x86_alu.specs.Operand.{span};
+ghost use Rattle.x86_exec.specs.Kept.{KeepsCode, Leaves};
+ghost use Rattle.x86_exec.specs.Shared as spec;
+
+use crate::access::with_access;
+use crate::effect::Effect;
+use crate::system::{iret, lidt, out, port_of};
+use vm_law::{Bytes, Ctx, Insn, Loc, Op, Width};
+use x86_op::{compute, pass, set_value};
+
+/// Runs an instruction of `len` bytes. `ctx` is the context before it.
+///
+/// An access is judged in this order: a byte at an address that isn't canonical is #GP with error code 0; a byte in a
+/// device's window is `Stop::Device`, but for a MOV of 32 bits at a multiple of 4, which becomes a `Load` or a `Store`
+/// of the machine; a byte outside memory is `Stop::Memory`; and a store to the code is `Stop::CodeWrite`. An instruction
+/// that loads and stores is judged as a store, CMPXCHG where it stores. A division that can't be done is #DE after its
+/// access.
+///
+/// Where memory has changed the instruction is done. The context is as before at `Trap`, `Stop`, `PortIn` and `Load`,
+/// and behind the instruction else. The one who delivers a `Trap` of INT lets it return behind the instruction.
+///
+/// Source: Intel SDM volume 2, the pages of the instructions, and volume 3, section 6.15 (#DE, #UD, #GP).
+#[tactic(auto, unfolding(crate::specs::Shared::shared_op))]
+pub fn run_shared<B: Bytes>(ctx: &mut Ctx, insn: &Insn, len: u8, bytes: &mut B) -> Effect
+    ensures effect { result ≡ (spec.shared ctx.old insn.now len (B.memory bytes.old)).effect }
+    ensures ctx { ctx.new ≡ (spec.shared ctx.old insn.now len (B.memory bytes.old)).ctx }
+    ensures memory { B.memory bytes.new ≡ (spec.shared ctx.old insn.now len (B.memory bytes.old)).memory }
+    ensures code { KeepsCode (B.memory bytes.old) (B.memory bytes.new) }
+    ensures leaves { Leaves result ctx.old ctx.new (B.memory bytes.old) (B.memory bytes.new) }
+{
+    match &insn.op {
+        Op::In(port) => Effect::PortIn {
+            port: port_of(ctx, *port),
+            width: insn.width,
+        },
+        Op::Out(port) => out(ctx, len, insn.width, *port),
+        Op::Int(vector) => Effect::Trap {
+            vector: *vector,
+            error: None,
+        },
+        Op::Ud2 => Effect::Trap {
+            vector: 6,
+            error: None,
+        },
+        Op::Hlt => {
+            pass(ctx, len);
+            Effect::Halt
+        }
+        Op::Iret => iret(ctx, len, bytes),
+        Op::Lidt(operand) => lidt(ctx, len, bytes, operand),
+        _ => with_access(ctx, insn, len, bytes),
+    }
+}
+
+/// The lowest bits of what a port answered.
+fn narrowed(width: Width, value: u32) -> u64
+    ensures { result ≡ value % span width }
+{
+    match width {
+        Width::B => u64::from(value & 0xFF),
+        Width::W => u64::from(value & 0xFFFF),
+        Width::D | Width::Q => u64::from(value),
+    }
+}
+
+/// Completes an instruction that asked for a number by `PortIn` or `Load`, now that it is there. `ctx` is the context
+/// before the instruction. AL, AX or EAX takes the lowest bits of a port's number, a MOV's register that of a window.
+///
+/// Source: Intel SDM volume 2, IN and MOV.
+#[tactic(auto, unfolding(crate::specs::Shared::completed_op))]
+pub fn complete(ctx: &mut Ctx, insn: &Insn, len: u8, value: u32)
+    ensures { ctx.new ≡ spec.completed ctx.old insn.now len value }
+{
+    match insn.op {
+        Op::In(_) => {
+            pass(ctx, len);
+            set_value(ctx, insn.width, &Loc::Reg(0), narrowed(insn.width, value));
+        }
+        _ => {
+            compute(ctx, insn, len, u64::from(value));
+        }
+    }
+}
