@@ -4,8 +4,8 @@ use vm_law::{Ctx, OutOfMemory};
 
 /// The parts of a context, in the order in which they are printed.
 pub const NAMES: [&str; 22] = [
-    "rax", "rcx", "rdx", "rbx", "rsp", "rbp", "rsi", "rdi", "r8", "r9", "r10", "r11", "r12", "r13", "r14", "r15", "rip",
-    "rflags", "idtbase", "idtlimit", "shadow", "nmiblock",
+    "rax", "rcx", "rdx", "rbx", "rsp", "rbp", "rsi", "rdi", "r8", "r9", "r10", "r11", "r12", "r13",
+    "r14", "r15", "rip", "rflags", "idtbase", "idtlimit", "shadow", "nmiblock",
 ];
 
 /// A case: an instruction's bytes, the context and memory before it, and what a port or a device answers.
@@ -64,7 +64,15 @@ fn plain() -> Ctx {
         *reg = value;
         value = value.wrapping_add(0x0101_0101_0101_0101);
     }
-    Ctx { regs, rip: 0x2000, rflags: 0x202, idt_base: 0, idt_limit: 0, shadow: false, nmi_block: false }
+    Ctx {
+        regs,
+        rip: 0x2000,
+        rflags: 0x202,
+        idt_base: 0,
+        idt_limit: 0,
+        shadow: false,
+        nmi_block: false,
+    }
 }
 
 /// The parts of a context, in the order of `NAMES`.
@@ -83,7 +91,13 @@ pub fn parts(ctx: &Ctx) -> [u64; 22] {
 impl Case {
     /// The case that a line states.
     pub fn parse(alloc: Global, line: &str) -> Result<Case, CaseError> {
-        let mut case = Case { insn: Vec::new(alloc), ctx: plain(), at: 0, memory: Vec::new(alloc), answer: 0 };
+        let mut case = Case {
+            insn: Vec::new(alloc),
+            ctx: plain(),
+            at: 0,
+            memory: Vec::new(alloc),
+            answer: 0,
+        };
         for (place, word) in line.split(' ').enumerate() {
             if place == 0 {
                 case.insn = bytes_of(alloc, word)?;

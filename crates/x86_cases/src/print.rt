@@ -35,7 +35,9 @@ fn print_area(area: Area, out: &mut String) -> Result<(), AllocError> {
         Area::Lapic(offset) => write!(out, " lapic {offset:x}"),
         Area::Ioapic(offset) => write!(out, " ioapic {offset:x}"),
         Area::Disk(disk, offset) => write!(out, " disk {disk} {offset:x}"),
-        Area::Ram | Area::Code | Area::Noncanonical | Area::Split | Area::Nothing => out.push_str(" no window"),
+        Area::Ram | Area::Code | Area::Noncanonical | Area::Split | Area::Nothing => out.push_str(
+            " no window",
+        ),
     }
 }
 
@@ -44,11 +46,21 @@ pub fn print_effect(effect: &Effect, out: &mut String) -> Result<(), AllocError>
     match effect {
         Effect::Done => out.push_str("done"),
         Effect::Halt => out.push_str("halt"),
-        Effect::Trap { vector, error: None } => write!(out, "trap {vector}"),
-        Effect::Trap { vector, error: Some(error) } => write!(out, "trap {vector} {error:x}"),
+        Effect::Trap {
+            vector,
+            error: None,
+        } => write!(out, "trap {vector}"),
+        Effect::Trap {
+            vector,
+            error: Some(error),
+        } => write!(out, "trap {vector} {error:x}"),
         Effect::Stop(stop) => write!(out, "stop {}", stop_word(*stop)),
         Effect::PortIn { port, width } => write!(out, "in {port:x} {}", bits_of(*width)),
-        Effect::PortOut { port, width, value } => write!(out, "out {port:x} {} {value:x}", bits_of(*width)),
+        Effect::PortOut { port, width, value } => write!(
+            out,
+            "out {port:x} {} {value:x}",
+            bits_of(*width)
+        ),
         Effect::Load { area } => {
             out.push_str("load")?;
             print_area(*area, out)
@@ -73,7 +85,12 @@ pub fn print_changes(before: &Ctx, after: &Ctx, out: &mut String) -> Result<(), 
 }
 
 /// The memory of the case, where it names some.
-pub fn print_memory(alloc: Global, case: &Case, ram: &GuestRam, out: &mut String) -> Result<(), AllocError> {
+pub fn print_memory(
+    alloc: Global,
+    case: &Case,
+    ram: &GuestRam,
+    out: &mut String,
+) -> Result<(), AllocError> {
     let len = case.memory.len();
     if len == 0 || ram.size() < case.at || ram.size() - case.at < len as u64 {
         return Ok(());

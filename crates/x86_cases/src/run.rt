@@ -28,7 +28,11 @@ fn code_part(alloc: Global) -> Result<Vec<u8>, OutOfMemory>
 /// The memory of a case that names none.
 pub fn blank(alloc: Global) -> Result<GuestRam, OutOfMemory> {
     let payload = Seq::from_vec(code_part(alloc)?);
-    let image = FlatImage { entry: 0, code: CODE, payload };
+    let image = FlatImage {
+        entry: 0,
+        code: CODE,
+        payload,
+    };
     GuestRam::new(alloc, SIZE, &image)
 }
 
@@ -43,7 +47,12 @@ pub fn loaded(alloc: Global, blank: &GuestRam, case: &Case) -> Result<GuestRam, 
 }
 
 /// Runs the instruction of a case, and says what became of it.
-pub fn run(ctx: &mut Ctx, ram: &mut GuestRam, case: &Case, out: &mut String) -> Result<(), AllocError> {
+pub fn run(
+    ctx: &mut Ctx,
+    ram: &mut GuestRam,
+    case: &Case,
+    out: &mut String,
+) -> Result<(), AllocError> {
     let (insn, len) = match decode(case.insn.as_slice()) {
         Ok(found) => found,
         Err(DecodeFault::Short) => return out.push_str("short"),
