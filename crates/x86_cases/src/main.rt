@@ -1,0 +1,71 @@
+//! Runs single instructions, each in a context and memory of its own, and prints what came of it.
+//!
+//! A line of stdin is a case: words with one space between them. The first has the instruction's bytes in hexadecimal
+//! digits. Each of the others is one of these, with numbers in hexadecimal:
+//!
+//! - `NAME=VALUE`: what a part of the context holds before: `rax` to `r15`, `rip`, `rflags`, `idtbase`, `idtlimit`,
+//!   `shadow`, `nmiblock`. Where none is said, RAX holds the byte A0 eight times, RCX A1, and so on by the registers'
+//!   numbers to R15, AF; RIP is 2000, RFLAGS 202 (IF, and bit 1, which is always 1), and the others are 0.
+//! - `AT:BYTES`: what memory holds from an address on.
+//! - `answer=VALUE`: what a port or a device's window answers.
+//!
+//! Memory has 1 MiB. The bytes below 3000 are code, each the low byte of its address, and all others are 0. The
+//! instruction itself stands in the case alone.
+//!
+//! The line of stdout in the same place says what became of the case, and then, in the same form, each part of the
+//! context that holds another value than before, and what the case's memory holds. The words before them are the
+//! instruction's effect; widths, vectors and the numbers of disks are decimal in them. A line that begins with `#` is
+//! printed as it is.
+//!
+//! The file `stdout` has what a processor did, and what the Intel SDM says where a processor can't be asked, as the
+//! README says. This program promises no more than that it is safe and ends.
+#![tactic(auto)]
+
+mod case;
+mod print;
+mod run;
+
+use crate::case::{Case, CaseError};
+use crate::print::{print_changes, print_memory};
+use crate::run::{blank, loaded, run};
+use guest_ram::GuestRam;
+use std::alloc::Global;
+use std::io;
+use std::io::{BufRead, BufReader, BufWriter, Write};
+
+/// What becomes of a case, as a line.
+fn outcome(alloc: Global, blank: &GuestRam, line: &str) -> Result<String, CaseError> {
+    let case = Case::parse(alloc, line)?;
+    let mut out = String::new(alloc);
+    let mut ram = loaded(alloc, blank, &case)?;
+    let mut ctx = case.ctx;
+    run(&mut ctx, &mut ram, &case, &mut out)?;
+    print_changes(&case.ctx, &ctx, &mut out)?;
+    print_memory(alloc, &case, &ram, &mut out)?;
+    Ok(out)
+}
+
+/// Prints a line for each line of input.
+fn print_all(rt: &HostRuntime, blank: &GuestRam) -> io::Result<()> {
+    let alloc = rt.alloc();
+    let mut out = BufWriter::new(alloc, io::writer(rt))?;
+    for line in BufReader::new(alloc, rt.reader())?.lines(alloc) {
+        let line = line?;
+        if line.starts_with('#') {
+            writeln!(out, "{line}")?;
+            continue;
+        }
+        match outcome(alloc, blank, line.as_str()) {
+            Ok(text) => writeln!(out, "{text}")?,
+            Err(error) => writeln!(out, "{error}")?,
+        }
+    }
+    out.flush()
+}
+
+fn main(rt: HostRuntime) -> io::Result<()> {
+    match blank(rt.alloc()) {
+        Ok(ram) => print_all(&rt, &ram),
+        Err(error) => println!(rt; "{error}"),
+    }
+}
