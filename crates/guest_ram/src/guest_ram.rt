@@ -1,10 +1,13 @@
-ghost use Rattle.std.specs.Prelude.{◌≡◌, ℕ, ◌<◌, ◌≤◌, length, slice_index, IfOk};
+ghost use Rattle.std.specs.Prelude.{◌≡◌, ℕ, ◌-◌, ◌*◌, ◌<◌, ◌≤◌, ◌++◌, length, replicate, slice_index, IfOk, OnOk};
 ghost use Rattle.vm_law.specs.Memory.{code_of};
 ghost use Rattle.guest_ram.specs.GuestRam.{IsSize, IsSound, loaded};
 
 use std::alloc::Global;
 use std::marker::Model;
 use vm_law::{Bytes, FlatImage, OutOfMemory};
+
+/// Zeros that are appended at once, which takes less time than one by one.
+const BLOCK: [u8; 1024] = [0; 1024];
 
 /// The memory of a guest. Contracts see its bytes and how many of them are code, the first ones.
 #[derive(Debug, Drop)]
@@ -36,7 +39,7 @@ impl GuestRam {
     {
         let mut bytes = Vec::with_capacity(alloc, size as usize)?;
         bytes.extend_from_slice(image.payload.as_slice())?;
-        bytes.resize(size as usize, 0)?;
+        fill(&mut bytes, size as usize)?;
         Ok(GuestRam {
             bytes,
             code: image.code,
@@ -69,6 +72,30 @@ impl GuestRam {
     {
         are_bytes(self.bytes.as_slice());
     }
+}
+
+/// Appends zeros up to a length.
+#[tactic(auto, using(crate::proofs::Zeros::filled))]
+fn fill(bytes: &mut Vec<u8>, size: usize) -> Result<(), OutOfMemory>
+    requires { length bytes.old.items ≤ size }
+    ensures { OnOk result (bytes.new.items ≡ bytes.old.items ++ replicate (size - length bytes.old.items) 0) }
+{
+    let missing = size - bytes.len();
+    append_zeros(bytes, &BLOCK, missing / BLOCK.len())?;
+    bytes.resize(size, 0)?;
+    Ok(())
+}
+
+/// Appends so many blocks of zeros.
+#[tactic(auto, using(crate::proofs::Zeros::one_more))]
+fn append_zeros(bytes: &mut Vec<u8>, block: &[u8], count: usize) -> Result<(), OutOfMemory>
+    requires { block.now ≡ replicate (length block.now) 0 }
+    ensures { OnOk result (bytes.new.items ≡ bytes.old.items ++ replicate (count * length block.now) 0) }
+{
+    for _done in 0..count {
+        bytes.extend_from_slice(block)?;
+    }
+    Ok(())
 }
 
 /// Each byte of a slice is below 256.
