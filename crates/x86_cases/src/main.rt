@@ -13,9 +13,12 @@
 //! instruction itself stands in the case alone.
 //!
 //! The line of stdout in the same place says what became of the case, and then, in the same form, each part of the
-//! context that holds another value than before, and what the case's memory holds. The words before them are the
-//! instruction's effect; widths, vectors and the numbers of disks are decimal in them. A line that begins with `#` is
-//! printed as it is.
+//! context that holds another value than before, and what the case's memory holds. What became of it is `local` where
+//! the instruction is local, and one of these, in which widths, vectors and the numbers of disks are decimal: `done`,
+//! `halt`, `trap VECTOR` with the error code where there is one, `stop CAUSE`, `in PORT WIDTH`, `out PORT WIDTH VALUE`,
+//! `load WINDOW OFFSET`, `store VALUE WINDOW OFFSET`, `undefined` where the bytes are no instruction, `short` where they
+//! end in the middle of one. After `in` and `load` the rest is what it is once the answer has come. A line that begins
+//! with `#` is printed as it is.
 //!
 //! The file `stdout` has what a processor did, and what the Intel SDM says where a processor can't be asked, as the
 //! README says. This program promises no more than that it is safe and ends.

@@ -60,7 +60,7 @@ pub fn run(
     };
     if is_local(&insn) {
         let done = run_local(ctx, &insn, len);
-        return out.push_str(if done { "done" } else { "trap 0" });
+        return out.push_str(if done { "local done" } else { "local trap 0" });
     }
     let effect = run_shared(ctx, &insn, len, ram);
     print_effect(&effect, out)?;
