@@ -5,6 +5,7 @@ use vm_law::{DiskPlan, Plan, Seq, Text};
 
 /// Scripts, in which a bar ends a line, with their prints.
 const READ: &str = "\
+ > wait quiet
 | > wait quiet
 # nothing| \t > wait quiet
 wait quiet > wait quiet
@@ -67,7 +68,7 @@ nmi 0|cancel 256 0|nmi 0 > 2 Disk
 nmi 0|nmi 1|cancel 999999999 1 > 3 Disk
 ";
 
-fn plan(alloc: Global) -> Result<Plan, Fail> {
+fn plan(alloc: Global, cpus: u8) -> Result<Plan, Fail> {
     let mut disks = Seq::new(alloc);
     for path in ["a.img", "b.img"] {
         let path = Text::from_text(alloc, path)?;
@@ -78,7 +79,7 @@ fn plan(alloc: Global) -> Result<Plan, Fail> {
         })?;
     }
     Ok(Plan {
-        cpus: 2,
+        cpus,
         memory: 268_435_456,
         name: Text::from_text(alloc, "")?,
         image: None,
@@ -89,7 +90,7 @@ fn plan(alloc: Global) -> Result<Plan, Fail> {
 }
 
 fn fault_of(alloc: Global, text: &[u8]) -> Result<Option<(u32, ScriptKind)>, Fail> {
-    let plan = plan(alloc)?;
+    let plan = plan(alloc, 2)?;
     if text.len() >= 1_000_000 {
         return Ok(None);
     }
@@ -97,6 +98,18 @@ fn fault_of(alloc: Global, text: &[u8]) -> Result<Option<(u32, ScriptKind)>, Fai
         Err(ScriptError::Fault { line, kind }) => Ok(Some((line, kind))),
         _ => Ok(None),
     }
+}
+
+#[test]
+fn one_vcpu(rt: HostRuntime) -> Result<(), Fail> {
+    let plan = plan(rt.alloc(), 1)?;
+    let answer = read(rt.alloc(), b"nmi 0\nnmi 1", &plan);
+    let want = ScriptError::Fault {
+        line: 2,
+        kind: ScriptKind::Cpu,
+    };
+    assert!(rt; answer.err() == Some(want));
+    Ok(())
 }
 
 // The same text with another byte, or bytes, between its lines, and with these after the last one.
@@ -117,7 +130,7 @@ const ENDS: [(&str, &str); 4] = [("\n", "\n"), ("\r\n", "\r\n"), ("\n", ""), ("\
 
 // The print of the script that a short text spells, if it spells one.
 fn print_of(alloc: Global, text: &[u8]) -> Result<String, Fail> {
-    let plan = plan(alloc)?;
+    let plan = plan(alloc, 2)?;
     if text.len() >= 1_000_000 {
         return Ok(String::new(alloc));
     }
