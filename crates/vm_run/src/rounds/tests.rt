@@ -6,8 +6,8 @@ use super::{PlayFault, play};
 use std::alloc::Global;
 use std::test::Fail;
 use vm_host::MemSink;
-use vm_law::{EndCause, Entry, FlatImage, Order, OutOfMemory, Plan, Seq, Stop, Text};
-use vm_machine::{Origin, Start, Why};
+use vm_law::{EndCause, Entry, FlatImage, Order, OutOfMemory, Plan, Seq, Signed, Stop, Text};
+use vm_machine::{Origin, Run, Start, Why};
 
 /// MOV EDX, 3F8; MOV AL, 41; OUT DX, AL; HLT.
 const ONE_BYTE: &[u8] = b"\xBA\xF8\x03\x00\x00\xB0\x41\xEE\xF4";
@@ -129,6 +129,35 @@ struct Case {
     taken: &'static [u8],
 }
 
+/// Whether these are the entries of a history.
+fn are_entries(history: &[Signed], wanted: &[Added]) -> bool {
+    let mut all = history.len() == wanted.len();
+    for (signed, (by, entry)) in history.iter().zip(wanted.iter()) {
+        all = all && signed.by == *by && signed.entry == *entry;
+    }
+    all
+}
+
+/// Whether a run is closed, ended so, and executed so many instructions.
+fn has_ended(run: &Run, why: Why, executed: u64) -> bool {
+    run.closed() && run.ended() == Some(why) && run.executed() == executed
+}
+
+/// Whether a run comes to what its case says.
+fn passes(alloc: Global, case: &Case) -> Result<bool, OutOfMemory> {
+    if case.code.is_empty() || case.code.len() > 4096 || case.limit < 1 || case.limit > 20_000_000 {
+        return Ok(false);
+    }
+    let start = start_of(alloc, case.code, case.limit)?;
+    let mut console = MemSink::new(alloc);
+    if case.console_fails {
+        console.fail(0)?;
+    }
+    let played = play(alloc, &start, &mut console)?;
+    let comes = are_entries(played.journal.as_slice(), case.entries) && played.end == case.end;
+    Ok(comes && has_ended(&played.run, case.why, case.executed) && console.taken() == case.taken)
+}
+
 #[test]
 fn runs_go_by_rounds(rt: HostRuntime) -> Result<(), Fail> {
     let alloc = rt.alloc();
@@ -180,24 +209,7 @@ fn runs_go_by_rounds(rt: HostRuntime) -> Result<(), Fail> {
         },
     ];
     for case in cases.iter() {
-        assert!(rt; !case.code.is_empty() && case.code.len() <= 4096);
-        assert!(rt; case.limit >= 1 && case.limit <= 20_000_000);
-        let start = start_of(alloc, case.code, case.limit)?;
-        let mut console = MemSink::new(alloc);
-        if case.console_fails {
-            console.fail(0)?;
-        }
-        let played = play(alloc, &start, &mut console)?;
-        assert_eq!(rt; played.journal.len(), case.entries.len());
-        for (entry, (by, wanted)) in played.journal.as_slice().iter().zip(case.entries.iter()) {
-            assert_eq!(rt; entry.by, *by);
-            assert_eq!(rt; entry.entry, *wanted);
-        }
-        assert_eq!(rt; played.end, case.end);
-        assert_eq!(rt; played.run.ended(), Some(case.why));
-        assert_eq!(rt; played.run.executed(), case.executed);
-        assert!(rt; played.run.closed());
-        assert_eq!(rt; console.taken(), case.taken);
+        assert!(rt; passes(alloc, case)?);
     }
     Ok(())
 }
