@@ -5,8 +5,8 @@ use vm_law::{DiskPlan, Plan, Seq, Text};
 
 /// Scripts, in which a bar ends a line, with their prints.
 const READ: &str = "\
- > wait quiet
 | > wait quiet
+ > wait quiet
 # nothing| \t > wait quiet
 wait quiet > wait quiet
 wait console 000000000000000001|\twait  executed 999999999999999999 > wait console 1|wait executed 999999999999999999
