@@ -1,2 +1,3 @@
-pub mod Text
+pub mod Kept
 pub mod Steps
+pub mod Text

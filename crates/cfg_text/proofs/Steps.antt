@@ -1,6 +1,6 @@
 -- Cuts, and the loop over a value.
 use Rattle.std.proofs.Common.{◌≡◌, ◌==◌, ◌∙◌, ℕ, zero, suc, ◌+◌, ◌<◌, ◌≤◌, Bool, true, false, cond, ltb, List, [], ◌∷◌, ◌++◌, length, drop, Option, Some, None, ◌⊎◌, inl, inr, refl, sym, ap, arith, append_assoc, eqb-true, ltb-true}
-use Rattle.std.specs.Prelude.{MatchOption, option_map, unwrap_or, IfSome}
+use Rattle.std.specs.Prelude.{option_map, option_and_then, unwrap_or}
 use Rattle.std.specs.Str.{bytes_eq}
 use Rattle.std.specs.Map.{lookup}
 use Rattle.std.specs.List.{position_or_len, before_first, after_first}
@@ -11,27 +11,8 @@ use Rattle.cfg_text.specs.declared.expand.Written.{Written}
 use Rattle.cfg_text.specs.declared.expand.Refusal.{Refusal}
 use Rattle.cfg_text.specs.declared.expand.Refusal.TheVariants as refusal
 use Rattle.cfg_text.specs.Lines.{Variable, variables_of}
-use Rattle.cfg_text.specs.Values.{IsDue, value_of, cut_at, reference, behind, at_cut, expanded_in, expanded, first_beyond}
-
-abbrev pub IsCut : ℕ → List ℕ → Option (Bor (List ℕ) × Bor (List ℕ)) → Type 0
-IsCut c text r = MatchOption r (position_or_len (λ b. b == c) text ≡ length text)
-    (λ x. (position_or_len (λ b. b == c) text < length text) × (x.0.now ≡ before_first (λ b. b == c) text) × (x.1.now ≡ after_first (λ b. b == c) text))
-
-pub cut_is : (c : ℕ) (text : List ℕ) (r : Option (Bor (List ℕ) × Bor (List ℕ))) → IsCut c text r → option_map (λ p. (p.0.now, p.1.now)) r ≡ cut_at c text
-cut_is c text None h = let e : ltb (position_or_len (λ b. b == c) text) (length text) ≡ false = le-ltb _ _ (omega arith) in rw e refl
-cut_is c text (Some x) h = let e : ltb (position_or_len (λ b. b == c) text) (length text) ≡ true = lt-ltb _ _ h.0 in rw (e, h.1, h.2) refl
-
-pub cut_shorter : (c : ℕ) (text : List ℕ) (r : Option (Bor (List ℕ) × Bor (List ℕ))) → IsCut c text r → IfSome r (λ p. length p.1.now < length text)
-cut_shorter c text None h = tt
-cut_shorter c text (Some x) h = rw h.2 (omega (arith, h.0, length-drop (position_or_len (λ b. b == c) text + 1) text))
-
-pub reference_none : (text : List ℕ) → ((rest : List ℕ) → text ≡ 40 ∷ rest → ⊥) → None ≡ reference text
-reference_none [] h = refl
-reference_none (b ∷ bs) h = go (b == 40) refl
-  where
-    go : (t : Bool) → (b == 40) ≡ t → None ≡ cond t (cut_at 41 bs) None
-    go true e = absurd (h bs (ap (λ (n : ℕ). n ∷ bs) (eqb-true b 40 e)))
-    go false e = refl
+use Rattle.text_reader.specs.Word.{cut_at}
+use Rattle.cfg_text.specs.Values.{IsDue, value_of, reference, behind, at_cut, expanded_in, expanded, first_beyond}
 
 pub looked_up : (es : List (Bor (List ℕ) × Written)) (name : List ℕ) → value_of (variables_of es) name ≡ unwrap_or (option_map (λ w. w.value.now) (lookup (λ k. bytes_eq name k.now) es)) []
 looked_up [] name = refl
@@ -59,7 +40,7 @@ reference_len : (text : List ℕ) (q : List ℕ × List ℕ) → reference text 
 reference_len [] q e = absurd cc
 reference_len (b ∷ bs) q e = go (b == 40) e
   where
-    go : (t : Bool) → cond t (cut_at 41 bs) None ≡ Some q → length q.1 < length (b ∷ bs)
+    go : (t : Bool) → option_and_then (cut_at 41) (cond t (Some bs) None) ≡ Some q → length q.1 < length (b ∷ bs)
     go true e = let h = cut_len 41 bs q e in omega arith
     go false e = absurd cc
 

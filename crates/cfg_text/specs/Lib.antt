@@ -1,3 +1,4 @@
+pub mod Config
 pub mod Line
 pub mod Lines
 pub mod Values

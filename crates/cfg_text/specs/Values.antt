@@ -1,26 +1,22 @@
 -- What the values are, once each `%(name)` in them stands for that variable's value as written.
-use Rattle.std.specs.Prelude.{◌≡◌, ◌==◌, ◌++◌, ◌+◌, ◌<◌, ◌≤◌, ℕ, zero, suc, List, [], ◌∷◌, length, map, nat_lt, Result, Ok, Err, Option, Some, None, if◌then◌else◌, ⊤}
-use Rattle.std.specs.List.{before_first, after_first, position_or_len}
+use Rattle.std.specs.Prelude.{◌≡◌, ◌++◌, ◌+◌, ◌<◌, ◌≤◌, ℕ, zero, suc, List, [], ◌∷◌, length, map, nat_lt, Result, Ok, Err, Option, Some, None, option_and_then, if◌then◌else◌, ⊤}
 use Rattle.std.specs.Str.{bytes_eq}
+use Rattle.text_reader.specs.Line.{Fault, and_on}
+use Rattle.text_reader.specs.Word.{cut_at, after_byte}
+use Rattle.cfg_text.specs.declared.error.CfgKind.{CfgKind}
 use Rattle.cfg_text.specs.declared.error.CfgKind.TheVariants.{Percent}
 use Rattle.cfg_text.specs.declared.expand.Refusal.{Refusal}
 use Rattle.cfg_text.specs.declared.expand.Refusal.TheVariants as refusal
-use Rattle.cfg_text.specs.Lines.{Variable, Fault, and_on, read_written}
+use Rattle.cfg_text.specs.Lines.{Variable, read_written}
 
 -- the value of a name as written, or nothing where there is no such variable
 abbrev pub value_of : List Variable → List ℕ → List ℕ
 value_of [] name = []
 value_of (v ∷ vs) name = if bytes_eq name v.name then v.value else value_of vs name
 
--- what stands before the first byte c, and after it
-abbrev pub cut_at : ℕ → List ℕ → Option (List ℕ × List ℕ)
-cut_at c text =
-    if nat_lt (position_or_len (λ b. b == c) text) (length text) then Some (before_first (λ b. b == c) text, after_first (λ b. b == c) text) else None
-
 -- behind a `%`: the name in parentheses (40, 41), and what follows
 abbrev pub reference : List ℕ → Option (List ℕ × List ℕ)
-reference [] = None
-reference (b ∷ bs) = if b == 40 then cut_at 41 bs else None
+reference text = option_and_then (cut_at 41) (after_byte 40 text)
 
 -- what follows a `%` (37), where `next` expands what comes later
 abbrev pub behind : List Variable → Option (List ℕ × List ℕ) → List ℕ → (List ℕ → List ℕ) → List ℕ
@@ -55,16 +51,16 @@ first_beyond vs before (v ∷ some) =
 abbrev pub values_of : List Variable → List Variable → List (List ℕ × List ℕ)
 values_of vs some = map (λ v. (v.name, expanded vs v.value)) some
 
-abbrev pub within : List Variable → Option Variable → Result (List (List ℕ × List ℕ)) Fault
+abbrev pub within : List Variable → Option Variable → Result (List (List ℕ × List ℕ)) (Fault CfgKind)
 within vs None = Ok (values_of vs vs)
 within vs (Some v) = Err (record { line = v.line; kind = Percent })
 
 -- names with expanded values, or the fault of the line that gave the value with which they pass the limit
-abbrev pub read_values : List Variable → Result (List (List ℕ × List ℕ)) Fault
+abbrev pub read_values : List Variable → Result (List (List ℕ × List ℕ)) (Fault CfgKind)
 read_values vs = within vs (first_beyond vs 0 vs)
 
 -- the configuration that a text spells, or its first fault
-abbrev pub read : List ℕ → Result (List (List ℕ × List ℕ)) Fault
+abbrev pub read : List ℕ → Result (List (List ℕ × List ℕ)) (Fault CfgKind)
 read bytes = and_on (read_written bytes) read_values
 
 -- a refusal as too long is due; want of memory says nothing

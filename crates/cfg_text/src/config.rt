@@ -1,34 +1,36 @@
-ghost use Rattle.std.specs.Prelude.{◌≡◌, ◌<◌, ◌≤◌, length, Some, option_map, slice_get};
+ghost use Rattle.std.specs.Prelude.{◌≡◌, ◌<◌, length, Some, option_map, slice_get};
 ghost use Rattle.std.specs.Str.{bytes_eq};
 ghost use Rattle.std.specs.Map.{lookup};
+ghost use Rattle.cfg_text.specs.Config.{pairs_of};
 
+use indexmap::IndexMap;
 use std::marker::Model;
-use vm_law::{Seq, Text};
 
 /// The variables of a configuration. Contracts see the list of their names with their expanded values, in the order of
 /// the variables' first lines.
 #[derive(Debug, Drop)]
 pub struct Config {
-    variables: Seq<(Text, Text)>,
+    variables: IndexMap<String, String>,
 }
 
 impl Model for Config {
     ghost use Rattle.std.specs.Prelude.{List, ℕ, ◌<◌, ◌^◌, length};
+    ghost use Rattle.cfg_text.specs.Config.{pairs_of};
 
     ghost Value = { List (List ℕ × List ℕ) };
 
-    ghost view = { λ c. c.variables };
+    ghost view = { λ c. pairs_of c.variables.entries };
 
-    ghost invariant = { λ c. length c.variables < 2 ^ 32 };
+    ghost invariant = { λ c. length (pairs_of c.variables.entries) < 2 ^ 32 };
 }
 
 impl Config {
     ghost use Rattle.std.specs.Prelude.{◌<◌, ◌^◌, length};
 
     /// A configuration of these variables, fewer than 2^32.
-    pub(crate) fn new(variables: Seq<(Text, Text)>) -> Config
-        requires { length variables < 2 ^ 32 }
-        ensures { result ≡ variables }
+    pub(crate) fn new(variables: IndexMap<String, String>) -> Config
+        requires { length (pairs_of variables.entries) < 2 ^ 32 }
+        ensures { result ≡ pairs_of variables.entries }
     {
         Config { variables }
     }
@@ -37,12 +39,10 @@ impl Config {
     pub fn get(&self, name: &str) -> Option<&str>
         ensures { option_map (λ v. v.now) result ≡ lookup (bytes_eq name.now) self.now }
     {
-        for variable in self.variables.as_slice() {
-            if name == variable.0.as_str() {
-                return Some(variable.1.as_str());
-            }
+        match self.variables.get(name) {
+            Some(value) => Some(value.as_str()),
+            None => None,
         }
-        None
     }
 
     /// How many variables there are.
@@ -57,7 +57,7 @@ impl Config {
         requires { k < length self.now }
         ensures { slice_get self.now k ≡ Some (result.0.now, result.1.now) }
     {
-        let variable = self.variables.at(k as usize);
-        (variable.0.as_str(), variable.1.as_str())
+        let (name, value) = self.variables.get_index(k as usize).unwrap();
+        (name.as_str(), value.as_str())
     }
 }

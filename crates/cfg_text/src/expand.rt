@@ -1,10 +1,11 @@
 ghost use Rattle.std.specs.Prelude.{◌≡◌, ◌<◌, ◌≤◌, ◌++◌, length, option_map, string_bytes, IfSome};
 ghost use Rattle.std.specs.Str.{IsUtf8};
 ghost use Rattle.cfg_text.specs.Lines.{variables_of};
-ghost use Rattle.cfg_text.specs.Values.{value_of, cut_at, reference, expanded, AnswersValue, AnswersAdd};
+ghost use Rattle.cfg_text.specs.Values.{value_of, reference, expanded, AnswersValue, AnswersAdd};
 
 use indexmap::IndexMap;
 use std::alloc::Global;
+use text_reader::{after_byte, cut_at};
 
 /// A variable's value as written, and the line, from 1, that gave it.
 #[derive(Clone, Copy)]
@@ -24,30 +25,14 @@ pub(crate) enum Refusal {
     Memory,
 }
 
-fn cut_percent(text: &str) -> Option<(&str, &str)>
-    ensures value { option_map (λ p. (p.0.now, p.1.now)) result ≡ cut_at 37 text.now }
-    ensures shorter { IfSome result (λ p. length p.1.now < length text.now) }
-    ensures text { IfSome result (λ p. IsUtf8 p.1.now) }
-{
-    text.split_once('%')
-}
-
-fn cut_close(text: &str) -> Option<(&str, &str)>
-    ensures value { option_map (λ p. (p.0.now, p.1.now)) result ≡ cut_at 41 text.now }
-    ensures shorter { IfSome result (λ p. length p.1.now < length text.now) }
-    ensures text { IfSome result (λ p. IsUtf8 p.1.now) }
-{
-    text.split_once(')')
-}
-
 /// The name in parentheses that a text begins with, and what follows it.
 fn name_of(text: &str) -> Option<(&str, &str)>
     ensures value { option_map (λ p. (p.0.now, p.1.now)) result ≡ reference text.now }
     ensures shorter { IfSome result (λ p. length p.1.now < length text.now) }
     ensures text { IfSome result (λ p. IsUtf8 p.1.now) }
 {
-    match text.strip_prefix('(') {
-        Some(rest) => cut_close(rest),
+    match after_byte(text, '(') {
+        Some(rest) => cut_at(rest, ')'),
         None => None,
     }
 }
@@ -86,7 +71,7 @@ pub(crate) fn expand(
 {
     let mut out = String::new(alloc);
     let mut rest = value;
-    while let Some((before, after)) = cut_percent(rest) {
+    while let Some((before, after)) = cut_at(rest, '%') {
         add(&mut out, before, most)?;
         match name_of(after) {
             Some((name, tail)) => {

@@ -1,10 +1,8 @@
-ghost use Rattle.std.specs.Prelude.{◌≡◌, ◌≤◌, ◌+◌, length, MatchOption, option_map, true, false, ◌∷◌, []};
-ghost use Rattle.std.specs.Str.{is_utf8};
-ghost use Rattle.std.specs.Str.Lines.{strip_carriage_return};
-ghost use Rattle.cfg_text.specs.Line.{view, without_indent, is_name, is_open, read_line, read_text, read_full, read_pair, cut_at_equals};
-ghost use Rattle.cfg_text.specs.Lines.{lines, lines_after, left};
+ghost use Rattle.std.specs.Prelude.{◌≡◌};
+ghost use Rattle.cfg_text.specs.Line.{view, is_name, is_open, read_line, read_full, read_pair};
 
 use crate::error::CfgKind;
+use text_reader::{content, cut_at, utf8_of};
 
 /// What a line says.
 #[derive(Clone, Copy)]
@@ -14,17 +12,6 @@ pub(crate) enum Line<'a> {
     /// A variable's name and value.
     Variable(&'a str, &'a str),
     Faulty(CfgKind),
-}
-
-/// The text without the spaces and tabs that it begins with.
-fn without_indent(text: &[u8]) -> &[u8]
-    ensures { result.now ≡ without_indent text.now }
-{
-    let mut rest = text;
-    while let [b' ' | b'\t', after @ ..] = rest {
-        rest = after;
-    }
-    rest
 }
 
 /// Whether a name has non-empty parts joined by dots.
@@ -76,32 +63,10 @@ fn is_open(value: &[u8]) -> bool
 pub(crate) fn line_of(line: &[u8]) -> Line
     ensures { view result ≡ read_line line.now }
 {
-    text_of(without_indent(line))
-}
-
-fn text_of(text: &[u8]) -> Line
-    ensures { view result ≡ read_text text.now }
-{
-    match text {
-        [] => Line::Skipped,
-        [b'#', ..] => Line::Skipped,
-        _ => full_text(text),
+    match content(line) {
+        Some(text) => full_text(text),
+        None => Line::Skipped,
     }
-}
-
-fn utf8_of(text: &[u8]) -> Option<&str>
-    ensures { MatchOption result (is_utf8 text.now ≡ false) (λ s. (is_utf8 text.now ≡ true) × (s.now ≡ text.now)) }
-{
-    match str::from_utf8(text) {
-        Ok(text) => Some(text),
-        Err(_) => None,
-    }
-}
-
-fn cut(text: &str) -> Option<(&str, &str)>
-    ensures { option_map (λ p. (p.0.now, p.1.now)) result ≡ cut_at_equals text.now }
-{
-    text.split_once('=')
 }
 
 fn full_text(text: &[u8]) -> Line
@@ -110,7 +75,7 @@ fn full_text(text: &[u8]) -> Line
     let Some(text) = utf8_of(text) else {
         return Line::Faulty(CfgKind::Text);
     };
-    let Some((name, value)) = cut(text) else {
+    let Some((name, value)) = cut_at(text, '=') else {
         return Line::Faulty(CfgKind::Equals);
     };
     pair_of(name, value)
@@ -126,27 +91,4 @@ fn pair_of<'a>(name: &'a str, value: &'a str) -> Line<'a>
         return Line::Faulty(CfgKind::Percent);
     }
     Line::Variable(name, value)
-}
-
-/// The line without the carriage return that it ends with.
-fn without_return(line: &[u8]) -> &[u8]
-    ensures { result.now ≡ strip_carriage_return line.now }
-{
-    match line {
-        [front @ .., b'\r'] => front,
-        _ => line,
-    }
-}
-
-/// The first line, and what follows its line feed, if one stands there.
-pub(crate) fn first_line(text: &[u8]) -> (&[u8], Option<&[u8]>)
-    ensures cut { lines text.now ≡ result.0.now ∷ lines_after result.1 }
-    ensures shorter { length result.0.now + left result.1 ≤ length text.now }
-{
-    for (at, b) in text.iter().enumerate() {
-        if *b == b'\n' {
-            return (without_return(&text[..at]), Some(&text[at + 1..]));
-        }
-    }
-    (text, None)
 }

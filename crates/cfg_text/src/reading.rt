@@ -1,16 +1,19 @@
-ghost use Rattle.std.specs.Prelude.{◌≡◌, ◌<◌, ◌≤◌, ◌+◌, ◌^◌, length, IfOk, OnOk};
+ghost use Rattle.std.specs.Prelude.{◌≡◌, ◌<◌, ◌≤◌, ◌+◌, ◌^◌, ◌++◌, ◌∷◌, [], length, None, IfOk, OnOk, string_bytes};
+ghost use Rattle.std.specs.Str.{bytes_eq};
+ghost use Rattle.std.specs.Map.{lookup};
 ghost use Rattle.indexmap.specs.IndexMap.{index_map_len};
 ghost use Rattle.cfg_text.specs.Line.{read_line};
 ghost use Rattle.cfg_text.specs.Lines.{read_one, read_written, Adds, Answers, variables_of};
+ghost use Rattle.cfg_text.specs.Config.{pairs_of, IsGrown};
 ghost use Rattle.cfg_text.specs.Values.{read, read_values};
 
 use crate::config::Config;
 use crate::error::{CfgError, CfgKind};
 use crate::expand::{Refusal, Variables, Written, expand};
-use crate::line::{Line, first_line, line_of};
+use crate::line::{Line, line_of};
 use indexmap::IndexMap;
 use std::alloc::Global;
-use vm_law::{OutOfMemory, Seq, Text};
+use text_reader::first_line;
 
 /// How many bytes the expanded values of a configuration may have in all: 16 MiB.
 const MOST_EXPANDED: usize = 16_777_216;
@@ -59,12 +62,31 @@ fn written<'a>(alloc: Global, bytes: &'a [u8]) -> Result<Variables<'a>, CfgError
     Ok(variables)
 }
 
+/// Adds a variable of another name than those that are there.
+fn add_value(
+    alloc: Global,
+    expanded: &mut IndexMap<String, String>,
+    name: &str,
+    value: String,
+) -> Result<(), CfgError>
+    requires { lookup (bytes_eq name.now) (pairs_of expanded.old.entries) ≡ None }
+    ensures { IsGrown (pairs_of expanded.old.entries ++ (name.now, string_bytes value) ∷ []) (pairs_of expanded.new.entries) result }
+{
+    let Ok(name) = String::from_str(alloc, name) else {
+        return Err(CfgError::Memory);
+    };
+    match expanded.insert(name, value) {
+        Ok(_) => Ok(()),
+        Err(_) => Err(CfgError::Memory),
+    }
+}
+
 /// The variables with each `%(name)` in their values replaced.
 fn values(alloc: Global, variables: &Variables) -> Result<Config, CfgError>
     requires { index_map_len variables.now < 2 ^ 32 }
     ensures { Answers (λ c. c) result (read_values (variables_of variables.now.entries)) }
 {
-    let mut expanded = Seq::new(alloc);
+    let mut expanded = IndexMap::new(alloc);
     let mut total = 0;
     for (name, written) in variables.iter() {
         let value = match expand(alloc, variables, written.value, MOST_EXPANDED - total) {
@@ -76,7 +98,7 @@ fn values(alloc: Global, variables: &Variables) -> Result<Config, CfgError>
             Err(Refusal::Memory) => return Err(CfgError::Memory),
         };
         total += value.len();
-        expanded.push((Text::from_text(alloc, *name)?, Text::from_string(value)))?;
+        add_value(alloc, &mut expanded, *name, value)?;
     }
     Ok(Config::new(expanded))
 }

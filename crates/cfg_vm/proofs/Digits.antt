@@ -1,25 +1,14 @@
 -- Numbers that are cut off at a bound beyond all that is allowed.
-use Rattle.std.proofs.Common.{◌≡◌, ◌∙◌, ℕ, suc, ◌+◌, ◌*◌, ◌-◌, ◌<◌, ◌≤◌, min, Bool, true, false, cond, ltb, List, [], ◌∷◌, ◌⊎◌, inl, inr, length, drop, get_or, refl, sym, ap, arith, add-one, drop-cons}
+use Rattle.std.proofs.Common.{◌≡◌, ◌∙◌, ℕ, suc, ◌+◌, ◌*◌, ◌-◌, ◌<◌, ◌≤◌, ◌^◌, min, Bool, true, false, cond, ltb, List, [], ◌∷◌, ◌⊎◌, inl, inr, length, drop, get_or, refl, sym, ap, arith, add-one, drop-cons}
 use Rattle.std.specs.Prelude.{Option, Some, None, option_map, option_and_then, Result, Err, nat_lt, ◌||◌}
 use Rattle.std.proofs.lemmas.Bool.{le-ltb, lt-ltb, ltb-true, ltb-false}
 use Rattle.std.proofs.Math.Nat.{mul-le-mul_right}
 use Rattle.cfg_vm.specs.declared.error.PlanKind.{PlanKind}
 use Rattle.cfg_vm.specs.declared.error.PlanKind.TheVariants.{Range}
-use Rattle.cfg_vm.specs.Number.{digits_from, number_then, counted, at_most, sized, bytes_of_bare}
+use Rattle.cfg_vm.specs.Number.{number_then, counted, at_most, sized, bytes_of_bare}
 
 abbrev pub cap : Option ℕ → Option ℕ
 cap o = option_map (min 1073741825) o
-
-pub saturates : (n : ℕ) (bs : List ℕ) → cap (digits_from (min 1073741825 n) bs) ≡ cap (digits_from n bs)
-saturates n [] = let e : min 1073741825 (min 1073741825 n) ≡ min 1073741825 n = omega arith in ap (λ (m : ℕ). Some m) e
-saturates n (b ∷ bs) = go (nat_lt b 48 || nat_lt 57 b) (λ m. saturates m bs)
-  where
-    go : (t : Bool) → ((m : ℕ) → cap (digits_from (min 1073741825 m) bs) ≡ cap (digits_from m bs))
-        → cap (cond t None (digits_from (min 1073741825 n * 10 + (b - 48)) bs)) ≡ cap (cond t None (digits_from (n * 10 + (b - 48)) bs))
-    go true later = refl
-    go false later =
-        let e : min 1073741825 (min 1073741825 n * 10 + (b - 48)) ≡ min 1073741825 (n * 10 + (b - 48)) = omega arith in
-        sym (later (min 1073741825 n * 10 + (b - 48))) ∙ (ap (λ (m : ℕ). cap (digits_from m bs)) e ∙ later (n * 10 + (b - 48)))
 
 -- a number is capped, or it is itself
 pub capped_cases : (m : ℕ) → ((1073741825 < m) × (min 1073741825 m ≡ 1073741825)) ⊎ (min 1073741825 m ≡ m)
@@ -84,10 +73,14 @@ pub cap_none : (o : Option ℕ) → None ≡ cap o → o ≡ None
 cap_none None h = refl
 cap_none (Some m) h = absurd cc
 
-pub next_digit : (n b : ℕ) (digits : List ℕ) (i : ℕ) → i < length digits → get_or digits i 0 ≡ b → 48 ≤ b → b ≤ 57 → (m : ℕ) → m ≡ min 1073741825 (n * 10 + (b - 48)) → (total : Option ℕ) → cap (digits_from n (drop i digits)) ≡ total → cap (digits_from m (drop (i + 1) digits)) ≡ total
-next_digit n b digits i lt b-is low high m m-is total told =
-    let e : ltb b 48 ≡ false = le-ltb _ _ low in
-    let f : ltb 57 b ≡ false = le-ltb _ _ high in
-    let parts : drop i digits ≡ b ∷ drop (suc i) digits = drop-cons digits i 0 lt ∙ ap (λ (x : ℕ). x ∷ drop (suc i) digits) b-is in
-    let step : cap (digits_from n (b ∷ drop (suc i) digits)) ≡ cap (digits_from (n * 10 + (b - 48)) (drop (suc i) digits)) = rw (e, f) refl in
-    rw (m-is, add-one) (saturates (n * 10 + (b - 48)) (drop (suc i) digits) ∙ (sym step ∙ (ap (λ (t : List ℕ). cap (digits_from n t)) (sym parts) ∙ told)))
+-- what is capped higher is capped here
+pub capped_twice : (o : Option ℕ) (n m : ℕ) → Some n ≡ option_map (min (2 ^ 64)) o → m ≡ min 1073741825 n → Some m ≡ cap o
+capped_twice None n m is small = absurd cc
+capped_twice (Some k) n m is small =
+    let same : n ≡ min (2 ^ 64) k = cc in
+    let e : m ≡ min 1073741825 k = omega arith in
+    ap (λ (x : ℕ). Some x) e
+
+pub capped_none : (o : Option ℕ) → None ≡ option_map (min (2 ^ 64)) o → None ≡ cap o
+capped_none None is = refl
+capped_none (Some k) is = absurd cc

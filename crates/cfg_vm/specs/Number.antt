@@ -1,18 +1,10 @@
 -- Values that are numbers, sizes or booleans, as bhyve_config(5) of FreeBSD has them.
-use Rattle.std.specs.Prelude.{◌==◌, ◌||◌, ◌+◌, ◌*◌, ◌-◌, ◌%◌, nat_lt, length, take, slice_index, ℕ, Bool, true, false, List, [], ◌∷◌, map, Option, Some, None, option_and_then, Result, Ok, Err, codes, if◌then◌else◌}
+use Rattle.std.specs.Prelude.{◌==◌, ◌||◌, ◌*◌, ◌-◌, ◌%◌, nat_lt, length, take, slice_index, ℕ, Bool, true, false, List, [], ◌∷◌, map, Option, Some, None, option_and_then, Result, Ok, Err, codes, if◌then◌else◌}
 use Rattle.std.specs.Str.{bytes_eq}
+use Rattle.text_reader.specs.Digits.{number}
 use Rattle.std.specs.Char.{to_ascii_lowercase}
 use Rattle.cfg_vm.specs.declared.error.PlanKind.{PlanKind}
 use Rattle.cfg_vm.specs.declared.error.PlanKind.TheVariants.{Number, Range, Boolean}
-
--- decimal digits (48 to 57), after the digits of n
-abbrev pub digits_from : ℕ → List ℕ → Option ℕ
-digits_from n [] = Some n
-digits_from n (b ∷ bs) = if nat_lt b 48 || nat_lt 57 b then None else digits_from (n * 10 + (b - 48)) bs
-
--- the number that decimal digits spell
-abbrev pub number : List ℕ → Option ℕ
-number text = if length text == 0 then None else digits_from 0 text
 
 abbrev pub number_then : {X : Type 0} → (ℕ → Result X PlanKind) → Option ℕ → Result X PlanKind
 number_then next None = Err Number
@@ -24,7 +16,7 @@ counted high n = if nat_lt high n then Err Range else if nat_lt n 1 then Err Ran
 -- from 1 to high
 abbrev pub count_or : ℕ → ℕ → Option (List ℕ) → Result ℕ PlanKind
 count_or default high None = Ok default
-count_or default high (Some text) = number_then (counted high) (number text)
+count_or default high (Some text) = number_then (counted high) (number 10 text)
 
 abbrev pub at_most : ℕ → ℕ → Option ℕ
 at_most most n = if nat_lt most n then None else Some n
@@ -36,7 +28,7 @@ has_leading_zero (b ∷ c ∷ cs) = b == 48
 
 -- from 0 to most, without leading zeros
 abbrev pub slot_number : ℕ → List ℕ → Option ℕ
-slot_number most text = if has_leading_zero text then None else option_and_then (at_most most) (number text)
+slot_number most text = if has_leading_zero text then None else option_and_then (at_most most) (number 10 text)
 
 -- from 1 MiB to 1 GiB, a multiple of 4,096
 abbrev pub sized : ℕ → Result ℕ PlanKind
@@ -48,7 +40,7 @@ sized bytes =
 
 -- 1 to 18 digits
 abbrev pub digits_then : (ℕ → Result ℕ PlanKind) → List ℕ → Result ℕ PlanKind
-digits_then next digits = if nat_lt 18 (length digits) then Err Number else number_then next (number digits)
+digits_then next digits = if nat_lt 18 (length digits) then Err Number else number_then next (number 10 digits)
 
 abbrev pub with_unit : ℕ → List ℕ → Result ℕ PlanKind
 with_unit unit digits = digits_then (λ n. sized (n * unit)) digits

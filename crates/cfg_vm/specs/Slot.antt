@@ -2,7 +2,7 @@
 use Rattle.std.specs.Prelude.{◌+◌, ◌*◌, ◌++◌, ℕ, List, Option, Some, None, option_and_then, codes, decimal, if◌then◌else◌}
 use Rattle.std.specs.Str.{bytes_eq}
 use Rattle.std.specs.Borrow.{Bor}
-use Rattle.cfg_text.specs.Values.{cut_at}
+use Rattle.text_reader.specs.Word.{cut_at}
 use Rattle.cfg_vm.specs.declared.slot.Slot.{Slot}
 use Rattle.cfg_vm.specs.Number.{slot_number}
 

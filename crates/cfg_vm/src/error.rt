@@ -5,17 +5,22 @@ use thiserror::Error;
 use vm_law::{OutOfMemory, Text};
 
 /// What is wrong with a variable.
-#[derive(Clone, Copy, Debug, PartialEq, Eq)]
+#[derive(Clone, Copy, Debug, PartialEq, Eq, Error)]
 pub enum PlanKind {
     /// It isn't a number.
+    #[error("number")]
     Number,
     /// It is a number that isn't allowed.
+    #[error("range")]
     Range,
     /// It is a file name that is empty, or missing and needed.
+    #[error("path")]
     Path,
     /// It is none of the words of a boolean.
+    #[error("boolean")]
     Boolean,
     /// It is the device of a ninth disk.
+    #[error("many")]
     Many,
 }
 
@@ -23,7 +28,7 @@ pub enum PlanKind {
 #[derive(Debug, Drop, Error)]
 pub enum PlanError {
     /// The first variable that is refused, and what is wrong with it.
-    #[error("{}: {kind:?}", variable.as_str())]
+    #[error("{}: {kind}", variable.as_str())]
     Fault { variable: Text, kind: PlanKind },
     /// An allocation was refused.
     #[error("out of memory")]

@@ -1,36 +1,35 @@
-ghost use Rattle.std.specs.Prelude.{◌≡◌, ◌<◌, ◌≤◌, ◌^◌, length, min, option_map, option_and_then, map, IfSome};
+ghost use Rattle.std.specs.Prelude.{◌≡◌, ◌≤◌, ◌^◌, min, option_map, option_and_then, map, IfSome};
 ghost use Rattle.std.specs.Str.{bytes_eq};
 ghost use Rattle.std.specs.Char.{to_ascii_lowercase};
-ghost use Rattle.cfg_vm.specs.Number.{number, number_then, counted, count_or, at_most, has_leading_zero, bytes_of_bare, slot_number, memory_or, memory_of, with_unit, bare, sized, boolean_or};
+ghost use Rattle.text_reader.specs.Digits.{number};
+ghost use Rattle.cfg_vm.specs.Number.{number_then, counted, count_or, at_most, has_leading_zero, bytes_of_bare, slot_number, memory_or, memory_of, with_unit, bare, sized, boolean_or};
 
 use crate::error::PlanKind;
+use text_reader::number;
 
 /// More than any number that is allowed; larger ones are all the same.
 const BEYOND: u64 = 1_073_741_825;
 
 /// The number, or `BEYOND` where it is larger.
-fn capped(n: u64) -> u64
+fn capped(n: u128) -> u64
     ensures { result ≡ min 1073741825 n }
 {
-    if n < BEYOND { n } else { BEYOND }
+    if n < u128::from(BEYOND) {
+        n as u64
+    } else {
+        BEYOND
+    }
 }
 
 /// The number that decimal digits spell, at most `BEYOND`; `None` where there is no digit or something else.
-fn number(digits: &[u8]) -> Option<u64>
-    ensures value { result ≡ option_map (min 1073741825) (number digits.now) }
+fn decimal(digits: &[u8]) -> Option<u64>
+    ensures value { result ≡ option_map (min 1073741825) (number 10 digits.now) }
     ensures small { IfSome result (λ n. n ≤ 1073741825) }
 {
-    if digits.is_empty() {
-        return None;
+    match number(digits, 10) {
+        Some(n) => Some(capped(n)),
+        None => None,
     }
-    let mut n = 0u64;
-    for b in digits {
-        if *b < b'0' || *b > b'9' {
-            return None;
-        }
-        n = capped(n * 10 + u64::from(*b - b'0'));
-    }
-    Some(n)
 }
 
 /// A number from 1 to `high`.
@@ -57,9 +56,9 @@ pub(crate) fn count_or(default: u8, high: u8, text: Option<&str>) -> Result<u8, 
 }
 
 fn count_of(high: u8, digits: &[u8]) -> Result<u8, PlanKind>
-    ensures { result ≡ number_then (counted high) (number digits.now) }
+    ensures { result ≡ number_then (counted high) (number 10 digits.now) }
 {
-    match number(digits) {
+    match decimal(digits) {
         Some(n) => counted(high, n),
         None => Err(PlanKind::Number),
     }
@@ -87,9 +86,9 @@ fn has_leading_zero(digits: &[u8]) -> bool
 
 /// A number up to `most`.
 fn number_to(most: u8, digits: &[u8]) -> Option<u8>
-    ensures { result ≡ option_and_then (at_most most) (number digits.now) }
+    ensures { result ≡ option_and_then (at_most most) (number 10 digits.now) }
 {
-    match number(digits) {
+    match decimal(digits) {
         Some(n) => at_most(most, n),
         None => None,
     }
@@ -131,7 +130,7 @@ fn with_unit(unit: u64, digits: &[u8]) -> Result<u64, PlanKind>
     if digits.len() > 18 {
         return Err(PlanKind::Number);
     }
-    match number(digits) {
+    match decimal(digits) {
         Some(n) => sized(n * unit),
         None => Err(PlanKind::Number),
     }
@@ -151,7 +150,7 @@ fn bare(digits: &[u8]) -> Result<u64, PlanKind>
     if digits.len() > 18 {
         return Err(PlanKind::Number);
     }
-    match number(digits) {
+    match decimal(digits) {
         Some(n) => sized(bytes_of_bare(n)),
         None => Err(PlanKind::Number),
     }

@@ -1,9 +1,9 @@
-ghost use Rattle.std.specs.Prelude.{◌≡◌, length, option_map, IfOk};
-ghost use Rattle.cfg_text.specs.Values.{cut_at};
+ghost use Rattle.std.specs.Prelude.{◌≡◌, option_map, IfOk};
 ghost use Rattle.cfg_vm.specs.Slot.{slot_of, slot_name, place, seen};
 
 use crate::number::slot_number;
 use std::alloc::Global;
+use text_reader::cut_at;
 use vm_law::{OutOfMemory, Text};
 
 /// The place of a PCI device: bus 0 to 255, slot 0 to 31, function 0 to 7.
@@ -21,23 +21,17 @@ pub(crate) fn place(slot: Slot) -> u32
     u32::from(slot.bus) * 256 + u32::from(slot.slot) * 8 + u32::from(slot.function)
 }
 
-fn cut(text: &str) -> Option<(&str, &str)>
-    ensures { option_map (λ p. (p.0.now, p.1.now)) result ≡ cut_at 46 text.now }
-{
-    text.split_once('.')
-}
-
 /// The place and the part of a name `pci.B.S.F.PART`.
 pub(crate) fn slot_of(name: &str) -> Option<(Slot, &str)>
     ensures { option_map seen result ≡ slot_of name.now }
 {
-    let (pci, rest) = cut(name)?;
+    let (pci, rest) = cut_at(name, '.')?;
     if pci != "pci" {
         return None;
     }
-    let (bus, rest) = cut(rest)?;
-    let (slot, rest) = cut(rest)?;
-    let (function, part) = cut(rest)?;
+    let (bus, rest) = cut_at(rest, '.')?;
+    let (slot, rest) = cut_at(rest, '.')?;
+    let (function, part) = cut_at(rest, '.')?;
     let bus = slot_number(255, bus)?;
     let slot = slot_number(31, slot)?;
     let function = slot_number(7, function)?;

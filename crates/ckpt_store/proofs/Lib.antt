@@ -1,4 +1,5 @@
 pub mod Gates
 mod Moments
-mod Pieces
+mod Savings
+mod Streams
 mod Torns

@@ -1,2 +1,3 @@
 pub mod Gate
 pub mod Loading
+pub mod Saving

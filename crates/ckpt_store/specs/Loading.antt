@@ -1,5 +1,5 @@
 -- The answers of `load`.
-use Rattle.std.specs.Prelude.{Result, Ok, Err}
+use Rattle.std.specs.Prelude.{◌≡◌, ◌≢◌, ℕ, List, take, Some, slice_get, Result, Ok, Err}
 use Rattle.vm_host.specs.declared.host.HostFault.{HostFault}
 use Rattle.ckpt_store.specs.declared.loading.LoadFault.{LoadFault}
 use Rattle.ckpt_store.specs.declared.loading.LoadFault.TheVariants.{Host, Long}
@@ -9,3 +9,8 @@ abbrev pub host_answer : {T : Type 0} → Result T LoadFault → Result (Unit {0
 host_answer (Ok v) = Ok tt
 host_answer (Err (Host fault)) = Err fault
 host_answer (Err Long) = Ok tt
+
+-- all of a file that begins with 01, and of any other its first byte alone
+pub record IsGatedFront (file bytes : List ℕ) : Type 0 where
+  pub is_open : slice_get file 0 ≡ Some 1 → bytes ≡ file
+  pub is_shut : slice_get file 0 ≢ Some 1 → bytes ≡ take 1 file

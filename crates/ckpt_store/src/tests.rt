@@ -1,6 +1,6 @@
 use super::*;
 use std::test::Fail;
-use vm_host::{Host, HostFault, MemHost};
+use vm_host::{HostFault, MemHost, MemText};
 
 const TEXT: &[u8] = b"\x01some text";
 
@@ -9,62 +9,36 @@ fn a_saved_file_is_loaded(rt: HostRuntime) -> Result<(), Fail> {
     let alloc = rt.alloc();
     let mut host = MemHost::new(alloc);
     host.put(alloc, "f", b"an older and longer text")?;
-    host.put(alloc, "g", b"another")?;
     save(alloc, &mut host, "f", TEXT)?;
     accepted_is_whole();
     let back = load(alloc, &mut host, "f", 10)?;
     assert_eq!(rt; back.as_slice(), TEXT);
-    let other = load(alloc, &mut host, "g", 100)?;
-    assert_eq!(rt; other.as_slice(), b"another".as_slice());
+    let gated = load_gated(alloc, &mut host, "f", 10)?;
+    assert_eq!(rt; gated.as_slice(), TEXT);
+    let long = load(alloc, &mut host, "f", 9).err();
+    assert!(rt; long == Some(LoadFault::Long));
     Ok(())
 }
 
 #[test]
-fn a_file_is_long_above_the_limit_alone(rt: HostRuntime) -> Result<(), Fail> {
+fn a_text_in_pieces_is_saved(rt: HostRuntime) -> Result<(), Fail> {
     let alloc = rt.alloc();
     let mut host = MemHost::new(alloc);
-    host.put(alloc, "none", b"")?;
-    host.put(alloc, "f", &[7; 5000])?;
-    // (name, limit, length of what is loaded)
-    let cases = [
-        ("none", 0, Some(0)),
-        ("none", 5000, Some(0)),
-        ("f", 5000, Some(5000)),
-        ("f", u64::MAX, Some(5000)),
-        ("f", 4999, None),
-        ("f", 4096, None),
-        ("f", 0, None),
-    ];
-    for (name, most, length) in cases {
-        match (load(alloc, &mut host, name, most), length) {
-            (Ok(bytes), Some(length)) => {
-                assert!(rt;
-                    bytes.len() == length && bytes.iter().all(|byte| *byte == 7),
-                    "{most}"
-                );
-            }
-            (Err(fault), None) => assert!(rt; fault == LoadFault::Long, "{most}"),
-            _ => panic!(rt; "{name} up to {most}"),
-        }
-    }
+    let text = [1u8; 9000];
+    assert!(rt; text.first() == Some(&1));
+    save_from(alloc, &mut host, "f", &mut MemText::new(&text, 4000))?;
+    let back = load(alloc, &mut host, "f", 9000)?;
+    assert!(rt; back.len() == 9000 && back.iter().all(|byte| *byte == 1));
     Ok(())
 }
 
 #[test]
-fn a_fault_of_the_host_is_handed_on(rt: HostRuntime) -> Result<(), Fail> {
+fn a_shut_gate_is_all_that_is_read(rt: HostRuntime) -> Result<(), Fail> {
     let alloc = rt.alloc();
     let mut host = MemHost::new(alloc);
-    host.put(alloc, "f", &[7; 5000])?;
-    for call in [2, 4] {
-        host.fail(alloc, call)?;
-    }
-    // (name, what loading it answers), in the order of the host's calls
-    let missing = load(alloc, &mut host, "h", 10).err();
-    assert!(rt; missing == Some(LoadFault::Host(HostFault::Missing)));
-    for _ in 0..2 {
-        let failed = load(alloc, &mut host, "f", 5000).err();
-        assert!(rt; failed == Some(LoadFault::Host(HostFault::Failed)));
-    }
+    host.put(alloc, "f", b"\x00some text")?;
+    let gate = load_gated(alloc, &mut host, "f", 100)?;
+    assert_eq!(rt; gate.as_slice(), [0].as_slice());
     Ok(())
 }
 
@@ -87,6 +61,7 @@ fn a_save_that_stops_leaves_the_file_shut(rt: HostRuntime) -> Result<(), Fail> {
         host.fail(alloc, call as u64)?;
         let answer = save(alloc, &mut host, "f", TEXT);
         assert!(rt; answer == Err(HostFault::Failed), "call {call}");
+        assert!(rt; host.failed() == b"f".as_slice(), "call {call}");
         let file = host.file("f").ok_or("the file is there")?;
         assert!(rt; file == *want, "call {call}");
     }

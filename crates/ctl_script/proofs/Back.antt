@@ -13,43 +13,18 @@ use Rattle.std.proofs.lemmas.List.{length-append, length-replicate}
 use Rattle.std.proofs.lemmas.Int.Digits.{digits_value-lt}
 use Rattle.std.proofs.lemmas.Fmt.{digits_is_IsNumeral, decimal_is_IsNumeral, length-decimal-le}
 use Rattle.std.proofs.Math.Nat.{pow-le-pow_right}
-use Rattle.ctl_script.specs.Numeral.{is_digit, numeral, after_prefix, hex_number, byte_of, joined, hex_bytes, registers, register_of, register_name, place_from}
+use Rattle.text_reader.specs.Digits.{is_digit, numeral, after_prefix, hex_number}
+use Rattle.text_reader.proofs.Bytes.{is_shown, digits_shown}
+use Rattle.text_reader.proofs.Numerals.{numeral_back, numeral_below}
+use Rattle.ctl_script.specs.Numeral.{byte_of, joined, hex_bytes, registers, register_of, register_name, place_from}
 use Rattle.ctl_script.specs.Print.{hex16, hex_text}
-use Rattle.ctl_script.proofs.Numerals.{all_digits}
-use Rattle.ctl_script.proofs.Bytes.{is_shown, digits_shown}
 
 -- ---- numbers
-
-tests_digits : (base : ℕ) (ds : List ℕ) → AllDigits base ds → list_all (is_digit base) ds ≡ true
-tests_digits base [] h = refl
-tests_digits base (c ∷ ds) h = and_from (is_digit base c) (list_all (is_digit base) ds) (lt-ltb (digit_value c) base h.0) (tests_digits base ds h.1)
-
-pub numeral_back : (base most : ℕ) (ds : List ℕ) → IsNumeral base ds → length ds ≤ most → numeral base most ds ≡ Some (digits_value base ds)
-numeral_back base most ds digits short =
-    let one : nat_lt 0 (length ds) ≡ true = lt-ltb 0 (length ds) digits.0 in
-    let two : nat_le (length ds) most ≡ true = le-leb (length ds) most short in
-    let three = tests_digits base ds digits.1 in
-    rw (one, two, three) refl
 
 pub decimal_back : (most n : ℕ) → 0 < most → n < 10 ^ most → n < 2 ^ 64 → numeral 10 most (decimal n) ≡ Some n
 decimal_back most n some low small =
     let spelled = decimal_is_IsNumeral n small in
     numeral_back 10 most (decimal n) spelled.0 (length-decimal-le most n some low small) ∙ ap (λ (x : ℕ). Some x) spelled.1
-
--- a number of at most so many digits is below that power of the base
-pub numeral_below : (base most : ℕ) (text : List ℕ) (n : ℕ) → 1 ≤ base → numeral base most text ≡ Some n → n < base ^ most
-numeral_below base most text n low e = go (nat_lt 0 (length text)) (nat_le (length text) most) (list_all (is_digit base) text) refl refl e
-  where
-    go : (x y z : Bool) → nat_le (length text) most ≡ y → list_all (is_digit base) text ≡ z → cond (x && (y && z)) (Some (digits_value base text)) None ≡ Some n → n < base ^ most
-    go false y z ey ez e = absurd cc
-    go true false z ey ez e = absurd cc
-    go true true false ey ez e = absurd cc
-    go true true true ey ez e =
-        let is : digits_value base text ≡ n = cc in
-        let below = digits_value-lt base text (all_digits base text ez) in
-        let short : length text ≤ most = leb-true _ _ ey in
-        let up = pow-le-pow_right {n = base} low short in
-        omega (arith, below, up)
 
 pub decimal_shown : (n : ℕ) → n < 2 ^ 64 → list_all is_shown (decimal n) ≡ true
 decimal_shown n small = digits_shown 10 (decimal n) (omega arith) (decimal_is_IsNumeral n small).0.1
@@ -93,7 +68,7 @@ hex16_digits n h =
     let some : 0 < length (hex16 n) = omega arith in
     ((some, zeros_digits (16 - length (digits 16 false n)) (digits 16 false n) spelled.0.1), zeros_value (16 - length (digits 16 false n)) (digits 16 false n) ∙ spelled.1, long)
 
-pub hex16_back : (n : ℕ) → n < 16 ^ 16 → hex_number (48 ∷ 120 ∷ hex16 n) ≡ Some n
+pub hex16_back : (n : ℕ) → n < 16 ^ 16 → hex_number 16 (48 ∷ 120 ∷ hex16 n) ≡ Some n
 hex16_back n h =
     let spelled = hex16_digits n h in
     numeral_back 16 16 (hex16 n) spelled.0 (omega arith) ∙ ap (λ (x : ℕ). Some x) spelled.1
@@ -101,7 +76,7 @@ hex16_back n h =
 pub hex16_shown : (n : ℕ) → n < 16 ^ 16 → list_all is_shown (hex16 n) ≡ true
 hex16_shown n h = digits_shown 16 (hex16 n) (omega arith) (hex16_digits n h).0.1
 
-pub hex16_small : (text : List ℕ) (n : ℕ) → hex_number text ≡ Some n → n < 16 ^ 16
+pub hex16_small : (text : List ℕ) (n : ℕ) → hex_number 16 text ≡ Some n → n < 16 ^ 16
 hex16_small text n e = go (after_prefix text) e
   where
     go : (o : Option (List ℕ)) → option_and_then (numeral 16 16) o ≡ Some n → n < 16 ^ 16

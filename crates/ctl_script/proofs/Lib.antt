@@ -1,10 +1,8 @@
 pub mod Again
 pub mod Back
-pub mod Bytes
-pub mod Cut
 pub mod Hexes
 pub mod Lines
-pub mod Numerals
 pub mod Orders
+pub mod Pairs
 pub mod Reread
 pub mod Words

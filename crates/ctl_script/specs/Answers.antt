@@ -7,7 +7,9 @@ use Rattle.ctl_script.specs.declared.fault.Refusal.TheVariants.{Kind, Memory}
 use Rattle.ctl_script.specs.declared.reading.Orders.{Orders}
 use Rattle.ctl_script.specs.declared.fault.ScriptError.{ScriptError}
 use Rattle.ctl_script.specs.declared.fault.ScriptError.TheVariants as error
-use Rattle.ctl_script.specs.Script.{Fault, is_paused, input_size}
+use Rattle.text_reader.specs.Line.{Fault}
+use Rattle.ctl_script.specs.Before.{is_paused}
+use Rattle.ctl_script.specs.Script.{input_size}
 
 -- the refusal is that kind of fault; Memory says nothing
 abbrev pub Refuses : {X : Type 0} → Refusal → Result X ScriptKind → Type 0
@@ -32,10 +34,10 @@ Reads (Err e) read = Refuses e read
 -- ---- the whole script
 
 -- Ok with the script, or its first fault; Memory says nothing
-abbrev pub Stops : ScriptError → Result (List Order) Fault → Type 0
+abbrev pub Stops : ScriptError → Result (List Order) (Fault ScriptKind) → Type 0
 Stops (error.Fault line kind) read = read ≡ Err (record { line = line; kind = kind })
 Stops error.Memory read = ⊤
 
-abbrev pub Spells : Result (List Order) ScriptError → Result (List Order) Fault → Type 0
+abbrev pub Spells : Result (List Order) ScriptError → Result (List Order) (Fault ScriptKind) → Type 0
 Spells (Ok script) read = read ≡ Ok script
 Spells (Err e) read = Stops e read

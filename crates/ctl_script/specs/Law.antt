@@ -7,9 +7,15 @@ use Rattle.vm_law.specs.declared.plan.Plan.{Plan}
 use Rattle.ctl_script.specs.Script.{script_of}
 use Rattle.ctl_script.specs.Print.{script_text}
 
--- a checkpoint's name doesn't end with a carriage return (13), which would be taken for a part of the line's end
+-- a name that doesn't end with a carriage return (13), which would be taken for a part of the line's end
+abbrev pub EndsPlain : List ℕ → Type 0
+EndsPlain name = (front : List ℕ) → name ≡ front ++ 13 ∷ [] → ⊥
+
+-- the name that ends the order's line, if one does, keeps its end
 abbrev pub KeepsItsEnd : Order → Type 0
-KeepsItsEnd (order.Checkpoint name) = (front : List ℕ) → name ≡ front ++ 13 ∷ [] → ⊥
+KeepsItsEnd (order.Checkpoint name) = EndsPlain name
+KeepsItsEnd (order.Against name base) = EndsPlain base
+KeepsItsEnd (order.Send name) = EndsPlain name
 KeepsItsEnd _ = ⊤
 
 -- a script that some text is for a plan is, for that plan, what its print is too

@@ -1,6 +1,6 @@
 pub mod Answers
+pub mod Before
 pub mod Law
-pub mod Line
 pub mod Numeral
 pub mod Order
 pub mod Print

@@ -1,31 +1,8 @@
--- Numbers, bytes and registers in a script.
-use Rattle.std.specs.Prelude.{◌==◌, ◌&&◌, ◌+◌, ◌*◌, nat_lt, nat_le, ℕ, Bool, List, [], ◌∷◌, length, Option, Some, None, option_and_then, option_map, codes, slice_get, unwrap_or, if◌then◌else◌}
-use Rattle.std.specs.List.{list_all}
+-- Bytes and registers in a script.
+use Rattle.std.specs.Prelude.{◌&&◌, ◌+◌, ◌*◌, ℕ, List, [], ◌∷◌, Option, Some, None, option_map, codes, slice_get, unwrap_or, if◌then◌else◌}
 use Rattle.std.specs.Str.{bytes_eq}
 use Rattle.std.specs.Char.{digit_value}
-use Rattle.std.specs.Str.Parse.{digits_value}
-
--- a digit of the base, where letters of either case are digits from 10 on
-abbrev pub is_digit : ℕ → ℕ → Bool
-is_digit base b = nat_lt (digit_value b) base
-
--- the number of 1 to `most` digits
-abbrev pub numeral : ℕ → ℕ → List ℕ → Option ℕ
-numeral base most text =
-    if nat_lt 0 (length text) && (nat_le (length text) most && list_all (is_digit base) text) then Some (digits_value base text) else None
-
--- what follows a first byte c
-abbrev pub after_byte : ℕ → List ℕ → Option (List ℕ)
-after_byte c [] = None
-after_byte c (b ∷ bs) = if b == c then Some bs else None
-
--- what follows `0x` (48, 120)
-abbrev pub after_prefix : List ℕ → Option (List ℕ)
-after_prefix text = option_and_then (after_byte 120) (after_byte 48 text)
-
--- `0x` and 1 to 16 hexadecimal digits
-abbrev pub hex_number : List ℕ → Option ℕ
-hex_number text = option_and_then (numeral 16 16) (after_prefix text)
+use Rattle.text_reader.specs.Digits.{is_digit}
 
 -- the byte that two hexadecimal digits write
 abbrev pub byte_of : ℕ → ℕ → Option ℕ

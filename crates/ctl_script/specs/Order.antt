@@ -1,12 +1,19 @@
 -- The orders: their words, and when and where each is allowed.
-use Rattle.std.specs.Prelude.{◌&&◌, nat_lt, ℕ, List, [], ◌∷◌, Option, Some, None, Result, Ok, Err, codes, if◌then◌else◌}
+use Rattle.std.specs.Prelude.{◌&&◌, nat_lt, false, ℕ, List, [], ◌∷◌, Option, Some, None, Result, Ok, Err, codes, if◌then◌else◌}
 use Rattle.std.specs.Str.{bytes_eq}
 use Rattle.vm_law.specs.declared.script.Order.{Order}
 use Rattle.vm_law.specs.declared.script.Order.TheVariants as order
 use Rattle.ctl_script.specs.declared.fault.ScriptKind.{ScriptKind}
 use Rattle.ctl_script.specs.declared.fault.ScriptKind.TheVariants as kind
 use Rattle.ctl_script.specs.declared.order.Situation.{Situation}
-use Rattle.ctl_script.specs.Numeral.{numeral, hex_number, hex_bytes, register_of}
+use Rattle.text_reader.specs.Digits.{numeral, hex_number}
+use Rattle.text_reader.specs.Word.{is_space, words_by}
+use Rattle.ctl_script.specs.Before.{may_be_base, is_closed}
+use Rattle.ctl_script.specs.Numeral.{hex_bytes, register_of}
+
+-- spaces separate the words of a line
+abbrev pub words_of : List ℕ → List (List ℕ)
+words_of text = words_by is_space text
 
 abbrev pub Reading : Type 0
 Reading = Result Order ScriptKind
@@ -54,12 +61,17 @@ nmi s b = need kind.Number (numeral 10 9 b) (λ cpu. on_cpu s cpu (order.Nmi cpu
 abbrev pub checkpoint : Situation → List ℕ → Reading
 checkpoint s b = while_paused s (Ok (order.Checkpoint b))
 
-abbrev pub two_words : Situation → List ℕ → List ℕ → Reading
-two_words s a b =
+-- send NAME
+abbrev pub send : List Order → List ℕ → Reading
+send before b = if is_closed false before b then Err kind.Order else Ok (order.Send b)
+
+abbrev pub two_words : Situation → List Order → List ℕ → List ℕ → Reading
+two_words s before a b =
     if bytes_eq a (codes "wait") then wait_quiet s b
     else if bytes_eq a (codes "input") then input b
     else if bytes_eq a (codes "nmi") then nmi s b
     else if bytes_eq a (codes "checkpoint") then checkpoint s b
+    else if bytes_eq a (codes "send") then send before b
     else Err kind.Word
 
 -- wait console N
@@ -96,17 +108,27 @@ three_words s a b c =
 -- set I REG 0xH
 abbrev pub set_register : Situation → List ℕ → List ℕ → List ℕ → Reading
 set_register s b c d =
-    need kind.Word (register_of c) (λ reg. need kind.Number (numeral 10 9 b) (λ cpu. need kind.Number (hex_number d) (λ value.
+    need kind.Word (register_of c) (λ reg. need kind.Number (numeral 10 9 b) (λ cpu. need kind.Number (hex_number 16 d) (λ value.
     while_paused s (on_cpu s cpu (order.Set cpu reg value)))))
 
-abbrev pub four_words : Situation → List ℕ → List ℕ → List ℕ → List ℕ → Reading
-four_words s a b c d = if bytes_eq a (codes "set") then set_register s b c d else Err kind.Word
+-- checkpoint NAME base OLD
+abbrev pub against : Situation → List Order → List ℕ → List ℕ → Reading
+against s before b d = while_paused s (if may_be_base before d then Ok (order.Against b d) else Err kind.Order)
 
--- the order that the words of a line spell
-abbrev pub order_of : Situation → List (List ℕ) → Reading
-order_of s [] = Err kind.Word
-order_of s (a ∷ []) = one_word s a
-order_of s (a ∷ b ∷ []) = two_words s a b
-order_of s (a ∷ b ∷ c ∷ []) = three_words s a b c
-order_of s (a ∷ b ∷ c ∷ d ∷ []) = four_words s a b c d
-order_of s (a ∷ b ∷ c ∷ d ∷ e ∷ more) = Err kind.Word
+abbrev pub checkpoint_against : Situation → List Order → List ℕ → List ℕ → List ℕ → Reading
+checkpoint_against s before b c d = if bytes_eq c (codes "base") then against s before b d else Err kind.Word
+
+abbrev pub four_words : Situation → List Order → List ℕ → List ℕ → List ℕ → List ℕ → Reading
+four_words s before a b c d =
+    if bytes_eq a (codes "set") then set_register s b c d
+    else if bytes_eq a (codes "checkpoint") then checkpoint_against s before b c d
+    else Err kind.Word
+
+-- the order that the words of a line spell after the orders before
+abbrev pub order_of : Situation → List Order → List (List ℕ) → Reading
+order_of s before [] = Err kind.Word
+order_of s before (a ∷ []) = one_word s a
+order_of s before (a ∷ b ∷ []) = two_words s before a b
+order_of s before (a ∷ b ∷ c ∷ []) = three_words s a b c
+order_of s before (a ∷ b ∷ c ∷ d ∷ []) = four_words s before a b c d
+order_of s before (a ∷ b ∷ c ∷ d ∷ e ∷ more) = Err kind.Word

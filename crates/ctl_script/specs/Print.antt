@@ -31,6 +31,8 @@ order_text (order.Checkpoint name) = codes "checkpoint " ++ name
 order_text (order.Set cpu reg value) = codes "set " ++ decimal cpu ++ codes " " ++ register_name reg ++ codes " 0x" ++ hex16 value
 order_text (order.Get cpu reg) = codes "get " ++ decimal cpu ++ codes " " ++ register_name reg
 order_text (order.Cancel disk id) = codes "cancel " ++ decimal disk ++ codes " " ++ decimal id
+order_text (order.Against name base) = codes "checkpoint " ++ name ++ codes " base " ++ base
+order_text (order.Send name) = codes "send " ++ name
 
 -- each order as a line, with its line feed (10)
 abbrev pub script_text : List Order → List ℕ

@@ -1,5 +1,5 @@
 -- A whole script: the orders of its lines, or its first fault.
-use Rattle.std.specs.Prelude.{◌==◌, ◌&&◌, ◌+◌, nat_le, ℕ, Bool, true, false, not, List, [], ◌∷◌, ◌++◌, length, map, sum, fold, Result, Ok, Err, if◌then◌else◌}
+use Rattle.std.specs.Prelude.{◌&&◌, nat_le, ℕ, Bool, not, List, [], ◌∷◌, ◌++◌, length, map, sum, Option, Some, None, Result, Ok, Err, if◌then◌else◌}
 use Rattle.std.specs.Str.{is_utf8}
 use Rattle.vm_law.specs.declared.script.Order.{Order}
 use Rattle.vm_law.specs.declared.script.Order.TheVariants as order
@@ -7,27 +7,9 @@ use Rattle.vm_law.specs.declared.plan.Plan.{Plan}
 use Rattle.ctl_script.specs.declared.fault.ScriptKind.{ScriptKind}
 use Rattle.ctl_script.specs.declared.fault.ScriptKind.TheVariants as kind
 use Rattle.ctl_script.specs.declared.order.Situation.{Situation}
-use Rattle.ctl_script.specs.Line.{lines, without_indent, words_of}
-use Rattle.ctl_script.specs.Order.{order_of}
-
--- whether the machine is paused after an order
-abbrev pub paused_after : Bool → Order → Bool
-paused_after paused order.WaitQuiet = paused
-paused_after paused (order.WaitConsole n) = paused
-paused_after paused (order.WaitExecuted n) = paused
-paused_after paused (order.Input bytes) = paused
-paused_after paused (order.Nmi cpu) = paused
-paused_after paused order.Rendezvous = paused
-paused_after paused order.Pause = true
-paused_after paused order.Resume = false
-paused_after paused (order.Checkpoint name) = paused
-paused_after paused (order.Set cpu reg value) = paused
-paused_after paused (order.Get cpu reg) = paused
-paused_after paused (order.Cancel disk id) = paused
-
--- whether the machine is paused after the orders; a script begins unpaused
-abbrev pub is_paused : List Order → Bool
-is_paused orders = fold paused_after false orders
+use Rattle.text_reader.specs.Line.{Fault, content, lines, read_lines}
+use Rattle.ctl_script.specs.Before.{is_paused}
+use Rattle.ctl_script.specs.Order.{order_of, words_of}
 
 -- how many bytes an order joins to the input
 abbrev pub input_of : Order → ℕ
@@ -51,41 +33,34 @@ abbrev pub added : List Order → Result Order ScriptKind → Result (List Order
 added before (Err fault) = Err fault
 added before (Ok o) = if is_small (before ++ o ∷ []) then Ok (before ++ o ∷ []) else Err kind.Many
 
--- the orders after a line that isn't skipped
+-- the orders after a line's text
 abbrev pub read_full : Plan → List Order → List ℕ → Result (List Order) ScriptKind
-read_full p before text = if not (is_utf8 text) then Err kind.Text else added before (order_of (situation p before) (words_of text))
+read_full p before text = if not (is_utf8 text) then Err kind.Text else added before (order_of (situation p before) before (words_of text))
 
--- a line that is empty or begins with `#` (35) is skipped
-abbrev pub read_text : Plan → List Order → List ℕ → Result (List Order) ScriptKind
-read_text p before [] = Ok before
-read_text p before (b ∷ bs) = if b == 35 then Ok before else read_full p before (b ∷ bs)
+-- blank lines and comments are skipped
+abbrev pub read_content : Plan → List Order → Option (List ℕ) → Result (List Order) ScriptKind
+read_content p before None = Ok before
+read_content p before (Some text) = read_full p before text
 
 abbrev pub read_line : Plan → List Order → List ℕ → Result (List Order) ScriptKind
-read_line p before line = read_text p before (without_indent line)
+read_line p before line = read_content p before (content line)
 
--- a faulty line, counted from 1, and the first kind of fault that it has
-pub record Fault : Type 0 where
-  pub line : ℕ
-  pub kind : ScriptKind
+abbrev pub at_line : ℕ → Result (List Order) ScriptKind → Result (List Order) (Fault ScriptKind)
+at_line n (Ok orders) = Ok orders
+at_line n (Err fault) = Err (record { line = n; kind = fault })
 
-abbrev pub then_lines : ℕ → Result (List Order) ScriptKind → (List Order → Result (List Order) Fault) → Result (List Order) Fault
-then_lines n (Ok orders) next = next orders
-then_lines n (Err fault) next = Err (record { line = n; kind = fault })
-
--- the orders after the lines, of which the first is line n, or the first fault
-unfoldable pub read_lines : Plan → ℕ → List Order → List (List ℕ) → Result (List Order) Fault
-read_lines p n before [] = Ok before
-read_lines p n before (l ∷ ls) = then_lines n (read_line p before l) (λ more. read_lines p (n + 1) more ls)
+abbrev pub line_step : Plan → ℕ → List Order → List ℕ → Result (List Order) (Fault ScriptKind)
+line_step p n before line = at_line n (read_line p before line)
 
 -- a script with no order is `wait quiet`
 abbrev pub or_wait : List Order → List Order
 or_wait [] = order.WaitQuiet ∷ []
 or_wait (o ∷ os) = o ∷ os
 
-abbrev pub whole : Result (List Order) Fault → Result (List Order) Fault
+abbrev pub whole : Result (List Order) (Fault ScriptKind) → Result (List Order) (Fault ScriptKind)
 whole (Ok orders) = Ok (or_wait orders)
 whole (Err fault) = Err fault
 
 -- the script that the text is for a plan, or its first fault
-abbrev pub script_of : Plan → List ℕ → Result (List Order) Fault
-script_of p bytes = whole (read_lines p 1 [] (lines bytes))
+abbrev pub script_of : Plan → List ℕ → Result (List Order) (Fault ScriptKind)
+script_of p bytes = whole (read_lines (line_step p) 1 [] (lines bytes))

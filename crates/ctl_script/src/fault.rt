@@ -8,21 +8,29 @@ use thiserror::Error;
 use vm_law::OutOfMemory;
 
 /// What is wrong with a line. The kinds are tried in this order.
-#[derive(Clone, Copy, Debug, PartialEq, Eq)]
+#[derive(Clone, Copy, Debug, PartialEq, Eq, Error)]
 pub enum ScriptKind {
     /// It isn't UTF-8.
+    #[error("text")]
     Text,
     /// It doesn't have the number of words and the fixed words of an order, the names of registers among them.
+    #[error("word")]
     Word,
     /// A number or the bytes of `input` don't have their form.
+    #[error("number")]
     Number,
-    /// `pause` or `wait` while paused, or `resume`, `checkpoint`, `set` or `get` while not paused.
+    /// `pause` or `wait` while paused; `resume`, `checkpoint`, `set` or `get` while not paused; a base of more than 65,535
+    /// bytes, one that is no earlier checkpoint of its own, or another than an earlier order's; `send` to a closed stream.
+    #[error("order")]
     Order,
     /// A vCPU outside the plan.
+    #[error("cpu")]
     Cpu,
     /// A disk outside the plan.
+    #[error("disk")]
     Disk,
     /// The 10,001st order, or more than 65,536 bytes of input in all.
+    #[error("many")]
     Many,
 }
 
@@ -30,7 +38,7 @@ pub enum ScriptKind {
 #[derive(Clone, Copy, Debug, PartialEq, Eq, Error)]
 pub enum ScriptError {
     /// The first faulty line, counted from 1, and the first kind of fault that it has.
-    #[error("at {line}: {kind:?}")]
+    #[error("at {line}: {kind}")]
     Fault { line: u32, kind: ScriptKind },
     /// Memory was refused.
     #[error("out of memory")]

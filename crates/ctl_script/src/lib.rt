@@ -6,9 +6,9 @@
 //! line's text are dropped. The orders are this project's own.
 #![tactic(auto)]
 
+mod before;
 mod fault;
 mod law;
-mod line;
 mod numeral;
 mod order;
 mod printing;

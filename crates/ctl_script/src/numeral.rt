@@ -1,48 +1,11 @@
 //! Numbers, bytes and registers.
-ghost use Rattle.std.specs.Prelude.{◌≡◌, ◌<◌, ◌≤◌, ◌^◌, IfOk, IfSome, Some, None, IfNone, length, ◌∷◌, if◌then◌else◌, option_map};
-ghost use Rattle.std.specs.List.{list_all};
-ghost use Rattle.std.specs.Char.{digit_value};
-ghost use Rattle.ctl_script.specs.Numeral.{is_digit, numeral, hex_number, after_prefix, after_byte, byte_of, hex_bytes, register_of, register_name};
+ghost use Rattle.std.specs.Prelude.{◌≡◌, ◌<◌, ◌^◌, IfOk, IfSome, IfNone, length, ◌∷◌};
+ghost use Rattle.text_reader.specs.Digits.{numeral};
+ghost use Rattle.ctl_script.specs.Numeral.{byte_of, hex_bytes, register_of, register_name};
 
 use std::alloc::Global;
+use text_reader::{digit, numeral};
 use vm_law::{OutOfMemory, Seq};
-
-fn is_digit(b: u8, base: u32) -> bool
-    requires low { 2 ≤ base }
-    requires high { base ≤ 16 }
-    ensures { result ≡ is_digit base b }
-{
-    char::from(b).is_digit(base)
-}
-
-fn hex_digit(b: u8) -> Option<u8>
-    ensures { result ≡ (if is_digit 16 b then Some (digit_value b) else None) }
-{
-    let digit = char::from(b).to_digit(16)?;
-    Some(digit as u8)
-}
-
-fn are_digits(text: &[u8], base: u32) -> bool
-    requires low { 2 ≤ base }
-    requires high { base ≤ 16 }
-    ensures { result ≡ list_all (is_digit base) text.now }
-{
-    text.iter().all(|b| is_digit(*b, base))
-}
-
-// The number of 1 to `most` digits of the base.
-fn numeral(text: &str, base: u32, most: usize) -> Option<u64>
-    requires low { 2 ≤ base }
-    requires high { base ≤ 16 }
-    requires fits { base ^ most ≤ 2 ^ 64 }
-    ensures { result ≡ numeral base most text.now }
-{
-    let digits = text.as_bytes();
-    if digits.is_empty() || digits.len() > most || !are_digits(digits, base) {
-        return None;
-    }
-    u64::from_str_radix(text, base).ok()
-}
 
 /// The number of 1 to 18 decimal digits.
 pub fn count(text: &str) -> Option<u64>
@@ -54,34 +17,9 @@ pub fn count(text: &str) -> Option<u64>
 /// The number of 1 to 9 decimal digits.
 pub fn index(text: &str) -> Option<u64>
     ensures number { result ≡ numeral 10 9 text.now }
-    ensures small { IfSome result (λ n. n < 2 ^ 32) }
+    ensures small { IfSome result (λ n. n < 10 ^ 9) }
 {
     numeral(text, 10, 9)
-}
-
-/// The number of `0x` and 1 to 16 hexadecimal digits.
-pub fn hex_number(text: &str) -> Option<u64>
-    ensures { result ≡ hex_number text.now }
-{
-    numeral(after_prefix(text)?, 16, 16)
-}
-
-fn after_prefix(text: &str) -> Option<&str>
-    ensures { option_map (λ s. s.now) result ≡ after_prefix text.now }
-{
-    after_x(after_zero(text)?)
-}
-
-fn after_zero(text: &str) -> Option<&str>
-    ensures { option_map (λ s. s.now) result ≡ after_byte 48 text.now }
-{
-    text.strip_prefix('0')
-}
-
-fn after_x(text: &str) -> Option<&str>
-    ensures { option_map (λ s. s.now) result ≡ after_byte 120 text.now }
-{
-    text.strip_prefix('x')
 }
 
 fn first_pair(text: &[u8]) -> Option<((u8, u8), &[u8])>
@@ -98,8 +36,8 @@ fn first_pair(text: &[u8]) -> Option<((u8, u8), &[u8])>
 fn byte_of(pair: (u8, u8)) -> Option<u8>
     ensures { result ≡ byte_of pair.0 pair.1 }
 {
-    let high = hex_digit(pair.0)?;
-    let low = hex_digit(pair.1)?;
+    let high = digit(pair.0, 16)?;
+    let low = digit(pair.1, 16)?;
     Some(high * 16 + low)
 }
 

@@ -1,15 +1,17 @@
 //! The orders by their words.
 ghost use Rattle.std.specs.Prelude.{◌≡◌, List, ℕ};
-ghost use Rattle.ctl_script.specs.Line.{texts};
-ghost use Rattle.ctl_script.specs.Order.{one_word, two_words, three_words, four_words, wait_quiet, input, nmi, checkpoint, wait_console, wait_executed, wait_for, get_register, cancel, set_register, order_of};
+ghost use Rattle.text_reader.specs.Word.{texts};
+ghost use Rattle.ctl_script.specs.Order.{one_word, two_words, three_words, four_words, wait_quiet, input, nmi, checkpoint, checkpoint_against, against, send, wait_console, wait_executed, wait_for, get_register, cancel, set_register, order_of};
 ghost use Rattle.ctl_script.specs.Answers.{Answers};
 
+use crate::before::{is_closed, may_be_base};
 use crate::fault::{Refusal, ScriptKind};
-use crate::numeral::{count, hex_bytes, hex_number, index, register_of};
+use crate::numeral::{count, hex_bytes, index, register_of};
 use std::alloc::Global;
+use text_reader::hex_number;
 use vm_law::{Order, Text};
 
-/// What the plan and the orders before say of the next one.
+/// What the plan and the orders before say of any next one.
 #[derive(Clone, Copy, Debug)]
 pub struct Situation {
     /// Whether the machine is paused.
@@ -20,16 +22,21 @@ pub struct Situation {
     pub disks: usize,
 }
 
-/// The order that the words of a line spell.
-pub fn order_of(alloc: Global, situation: Situation, words: &[&str]) -> Result<Order, Refusal>
-    ensures { Answers result (order_of situation (texts words.now)) }
+/// The order that the words of a line spell after the orders before.
+pub fn order_of(
+    alloc: Global,
+    situation: Situation,
+    before: &[Order],
+    words: &[&str],
+) -> Result<Order, Refusal>
+    ensures { Answers result (order_of situation before.now (texts words.now)) }
 {
     match words {
         [] => Err(Refusal::Kind(ScriptKind::Word)),
         [a] => lifted(one_word(situation, a)),
-        [a, b] => two_words(alloc, situation, a, b),
+        [a, b] => two_words(alloc, situation, before, a, b),
         [a, b, c] => lifted(three_words(situation, a, b, c)),
-        [a, b, c, d] => lifted(four_words(situation, a, b, c, d)),
+        [a, b, c, d] => four_words(alloc, situation, before, a, b, c, d),
         [_, _, _, _, _, ..] => Err(Refusal::Kind(ScriptKind::Word)),
     }
 }
@@ -56,14 +63,21 @@ fn one_word(s: Situation, a: &str) -> Result<Order, ScriptKind>
     }
 }
 
-fn two_words(alloc: Global, s: Situation, a: &str, b: &str) -> Result<Order, Refusal>
-    ensures { Answers result (two_words s a.now b.now) }
+fn two_words(
+    alloc: Global,
+    s: Situation,
+    before: &[Order],
+    a: &str,
+    b: &str,
+) -> Result<Order, Refusal>
+    ensures { Answers result (two_words s before.now a.now b.now) }
 {
     match a {
         "wait" => lifted(wait_quiet(s, b)),
         "input" => input(alloc, b),
         "nmi" => lifted(nmi(s, b)),
         "checkpoint" => checkpoint(alloc, s, b),
+        "send" => send(alloc, before, b),
         _ => Err(Refusal::Kind(ScriptKind::Word)),
     }
 }
@@ -109,6 +123,16 @@ fn checkpoint(alloc: Global, s: Situation, b: &str) -> Result<Order, Refusal>
         Ok(Order::Checkpoint(Text::from_text(alloc, b)?))
     } else {
         Err(Refusal::Kind(ScriptKind::Order))
+    }
+}
+
+fn send(alloc: Global, before: &[Order], b: &str) -> Result<Order, Refusal>
+    ensures { Answers result (send before.now b.now) }
+{
+    if is_closed(before, b) {
+        Err(Refusal::Kind(ScriptKind::Order))
+    } else {
+        Ok(Order::Send(Text::from_text(alloc, b)?))
     }
 }
 
@@ -196,13 +220,58 @@ fn cancel(s: Situation, b: &str, c: &str) -> Result<Order, ScriptKind>
     }
 }
 
-fn four_words(s: Situation, a: &str, b: &str, c: &str, d: &str) -> Result<Order, ScriptKind>
-    ensures { result ≡ four_words s a.now b.now c.now d.now }
+fn four_words(
+    alloc: Global,
+    s: Situation,
+    before: &[Order],
+    a: &str,
+    b: &str,
+    c: &str,
+    d: &str,
+) -> Result<Order, Refusal>
+    ensures { Answers result (four_words s before.now a.now b.now c.now d.now) }
 {
     match a {
-        "set" => set_register(s, b, c, d),
-        _ => Err(ScriptKind::Word),
+        "set" => lifted(set_register(s, b, c, d)),
+        "checkpoint" => checkpoint_against(alloc, s, before, b, c, d),
+        _ => Err(Refusal::Kind(ScriptKind::Word)),
     }
+}
+
+fn checkpoint_against(
+    alloc: Global,
+    s: Situation,
+    before: &[Order],
+    b: &str,
+    c: &str,
+    d: &str,
+) -> Result<Order, Refusal>
+    ensures { Answers result (checkpoint_against s before.now b.now c.now d.now) }
+{
+    match c {
+        "base" => against(alloc, s, before, b, d),
+        _ => Err(Refusal::Kind(ScriptKind::Word)),
+    }
+}
+
+fn against(
+    alloc: Global,
+    s: Situation,
+    before: &[Order],
+    b: &str,
+    d: &str,
+) -> Result<Order, Refusal>
+    ensures { Answers result (against s before.now b.now d.now) }
+{
+    if !s.paused {
+        return Err(Refusal::Kind(ScriptKind::Order));
+    }
+    if !may_be_base(before, d) {
+        return Err(Refusal::Kind(ScriptKind::Order));
+    }
+    let name = Text::from_text(alloc, b)?;
+    let base = Text::from_text(alloc, d)?;
+    Ok(Order::Against { name, base })
 }
 
 fn set_register(s: Situation, b: &str, c: &str, d: &str) -> Result<Order, ScriptKind>
@@ -214,7 +283,7 @@ fn set_register(s: Situation, b: &str, c: &str, d: &str) -> Result<Order, Script
     let Some(cpu) = index(b) else {
         return Err(ScriptKind::Number);
     };
-    let Some(value) = hex_number(d) else {
+    let Some(value) = hex_number(d, 16) else {
         return Err(ScriptKind::Number);
     };
     if !s.paused {

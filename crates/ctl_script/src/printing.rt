@@ -1,5 +1,5 @@
 //! The text of a script.
-ghost use Rattle.std.specs.Prelude.{◌≡◌, ◌++◌, ◌∷◌, [], true, IfOk, OnOk, Some};
+ghost use Rattle.std.specs.Prelude.{◌≡◌, ◌++◌, ◌∷◌, [], true, IfOk, OnOk, Some, codes};
 ghost use Rattle.std.specs.List.{list_all};
 ghost use Rattle.std.specs.String.{string_bytes};
 ghost use Rattle.ctl_script.specs.Print.{hex16, hex_pair, hex_text, order_text, script_text, has_registers};
@@ -45,6 +45,13 @@ fn put_hex(out: &mut String, bytes: &[u8]) -> Result<(), OutOfMemory>
     Ok(())
 }
 
+fn put_against(out: &mut String, name: &str, base: &str) -> Result<(), OutOfMemory>
+    ensures { OnOk result (string_bytes out.new ≡ string_bytes out.old ++ (codes "checkpoint " ++ name.now ++ codes " base " ++ base.now)) }
+{
+    write!(out, "checkpoint {name} base {base}")?;
+    Ok(())
+}
+
 // An order, without its line feed.
 fn put_order(out: &mut String, order: &Order) -> Result<(), OutOfMemory>
     requires { has_registers order.now ≡ true }
@@ -76,6 +83,11 @@ fn put_order(out: &mut String, order: &Order) -> Result<(), OutOfMemory>
             write!(out, "get {cpu} {name}")?;
         }
         Order::Cancel { disk, id } => write!(out, "cancel {disk} {id}")?,
+        Order::Against { name, base } => put_against(out, name.as_str(), base.as_str())?,
+        Order::Send(name) => {
+            let name = name.as_str();
+            write!(out, "send {name}")?;
+        }
     }
     Ok(())
 }

@@ -1,15 +1,16 @@
 //! The whole text.
 ghost use Rattle.std.specs.Prelude.{◌≡◌, ◌<◌, ◌^◌, ◌++◌, ◌∷◌, [], ℕ, length, IfOk, Ok, Err, true};
 ghost use Rattle.ctl_script.specs.declared.fault.ScriptKind.{ScriptKind};
-ghost use Rattle.ctl_script.specs.Script.{script_of, added, read_full, read_text, read_line, is_paused, input_size, input_of, paused_after, or_wait};
+ghost use Rattle.ctl_script.specs.Script.{script_of, added, read_full, read_line, input_of, or_wait};
 ghost use Rattle.std.specs.List.{list_all};
 ghost use Rattle.ctl_script.specs.Print.{has_registers};
 ghost use Rattle.ctl_script.specs.Answers.{Reads, Tells, Spells};
 
+use crate::before::paused_after;
 use crate::fault::{Refusal, ScriptError, ScriptKind};
-use crate::line::{first_line, utf8_of, without_indent, words_of};
 use crate::order::{Situation, order_of};
 use std::alloc::Global;
+use text_reader::{Separators, content, first_line, utf8_of, words};
 use vm_law::{Order, OutOfMemory, Plan, Script, Seq};
 
 /// The orders so far, with what the next one needs to know of them.
@@ -20,16 +21,6 @@ pub struct Orders {
     pub paused: bool,
     /// How many bytes of input they have.
     pub input: usize,
-}
-
-fn paused_after(paused: bool, order: &Order) -> bool
-    ensures { result ≡ paused_after paused order.now }
-{
-    match order {
-        Order::Pause => true,
-        Order::Resume => false,
-        _ => paused,
-    }
 }
 
 fn input_of(order: &Order) -> usize
@@ -71,32 +62,24 @@ fn add_full(alloc: Global, so_far: Orders, plan: &Plan, text: &[u8]) -> Result<O
     let Some(text) = utf8_of(text) else {
         return Err(Refusal::Kind(ScriptKind::Text));
     };
-    let words = words_of(alloc, text)?;
+    let words = words(alloc, text, Separators::Spaces)?;
     let situation = Situation {
         paused: so_far.paused,
         cpus: plan.cpus,
         disks: plan.disks.len(),
     };
-    let order = order_of(alloc, situation, &words)?;
+    let order = order_of(alloc, situation, &so_far.orders, &words)?;
     with_order(so_far, order)
-}
-
-fn add_text(alloc: Global, so_far: Orders, plan: &Plan, text: &[u8]) -> Result<Orders, Refusal>
-    requires { Tells so_far }
-    ensures { Reads result (read_text plan.now so_far.orders.items text.now) }
-{
-    match text {
-        [] => Ok(so_far),
-        [b'#', ..] => Ok(so_far),
-        _ => add_full(alloc, so_far, plan, text),
-    }
 }
 
 fn add_line(alloc: Global, so_far: Orders, plan: &Plan, line: &[u8]) -> Result<Orders, Refusal>
     requires { Tells so_far }
     ensures { Reads result (read_line plan.now so_far.orders.items line.now) }
 {
-    add_text(alloc, so_far, plan, without_indent(line))
+    match content(line) {
+        Some(text) => add_full(alloc, so_far, plan, text),
+        None => Ok(so_far),
+    }
 }
 
 // A script with no order waits until nothing more happens.

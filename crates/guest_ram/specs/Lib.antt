@@ -1,1 +1,2 @@
 pub mod GuestRam
+pub mod Pages

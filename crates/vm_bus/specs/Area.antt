@@ -2,9 +2,10 @@
 -- Sources: Intel SDM volume 1, section 3.3.7.1 (canonical addresses), and volume 3, section 10.4.1 (the local APIC's
 -- window); Intel 82093AA, section 3.0, and bhyve's vioapic.h (the I/O APIC's window). The eight windows of disks are
 -- this machine's own, one after the other, each with the registers of a virtio MMIO device.
-use Rattle.std.specs.Prelude.{ℕ, zero, suc, ◌+◌, ◌-◌, ◌*◌, ◌%◌, ◌^◌, ◌<◌, ◌≤◌, List, ◌∷◌, map, find, Bool, false, not, ◌&&◌, ◌||◌, nat_lt, nat_le, if◌then◌else◌, Option, unwrap_or}
+use Rattle.std.specs.Prelude.{ℕ, zero, suc, ◌+◌, ◌-◌, ◌*◌, ◌%◌, ◌^◌, ◌<◌, ◌≤◌, List, ◌∷◌, map, find, length, Bool, false, not, ◌&&◌, ◌||◌, nat_lt, nat_le, if◌then◌else◌, Option, unwrap_or}
 use Rattle.std.specs.List.{list_any, range_with_len}
 use Rattle.std.specs.Option.{option_map}
+use Rattle.vm_law.specs.Memory.{Memory}
 use Rattle.vm_bus.specs.declared.area.Area.{Area}
 use Rattle.vm_bus.specs.declared.area.Area.TheVariants.{Ram, Code, Lapic, Ioapic, Disk, Noncanonical, Split, Nothing}
 
@@ -62,6 +63,10 @@ unfoldable pub area_of : ℕ → ℕ → ℕ → ℕ → Area
 area_of addr len code ram =
     if any_byte (λ a. not (is_canonical a)) addr len then Noncanonical
     else unwrap_or (window_of addr len) (if any_byte is_device addr len then Split else memory_of addr len code ram)
+
+-- the same of a range of a memory
+abbrev pub area_in : Memory → ℕ → ℕ → Area
+area_in mem addr len = area_of addr len mem.code (length mem.bytes)
 
 -- where the range is, as numbers, by what stands there
 abbrev pub IsWithin : ℕ → ℕ → ℕ → ℕ → Area → Type 0

@@ -1,8 +1,8 @@
 -- The commands of the table are made of their rows.
 use Rattle.std.proofs.Common.{refl}
 use Rattle.clap.proofs.OnLiterals.{clap_on_literals}
-use Rattle.vm_cmd.specs.Table.{run_form, replay_form, show_form, asm_form, make_form}
-use Rattle.vm_cmd.specs.Shapes.{MadeOf, run_app, replay_app, show_app, asm_app, make_app}
+use Rattle.vm_cmd.specs.Table.{run_form, replay_form, show_form, files_form, make_form, inspect_form}
+use Rattle.vm_cmd.specs.Shapes.{MadeOf, run_app, replay_app, show_app, files_app, make_app, inspect_app}
 
 pub run_made : MadeOf run_app run_form
 unfolding clap_on_literals
@@ -16,10 +16,14 @@ pub show_made : MadeOf show_app show_form
 unfolding clap_on_literals
 show_made = record { free = refl; simple = refl; leaf = refl; shape = refl; well = refl; bare = refl }
 
-pub asm_made : MadeOf asm_app asm_form
+pub files_made : MadeOf files_app files_form
 unfolding clap_on_literals
-asm_made = record { free = refl; simple = refl; leaf = refl; shape = refl; well = refl; bare = refl }
+files_made = record { free = refl; simple = refl; leaf = refl; shape = refl; well = refl; bare = refl }
 
 pub make_made : MadeOf make_app make_form
 unfolding clap_on_literals
 make_made = record { free = refl; simple = refl; leaf = refl; shape = refl; well = refl; bare = refl }
+
+pub inspect_made : MadeOf inspect_app inspect_form
+unfolding clap_on_literals
+inspect_made = record { free = refl; simple = refl; leaf = refl; shape = refl; well = refl; bare = refl }

@@ -31,11 +31,14 @@ replay_app = with_rule (with_rule (with_rule (with_rule (with_rule (bare_app (co
 abbrev pub show_app : App
 show_app = with_rule (bare_app (codes "show")) (place_of (codes "config"))
 
-abbrev pub asm_app : App
-asm_app = with_rule (with_rule (bare_app (codes "asm")) (place_of (codes "file"))) (place_of (codes "out"))
+abbrev pub files_app : App
+files_app = with_rule (with_rule (bare_app (codes "files")) (place_of (codes "file"))) (place_of (codes "out"))
 
 abbrev pub make_app : App
 make_app = with_rule (with_rule (bare_app (codes "make")) (place_of (codes "cpus"))) (place_of (codes "number"))
+
+abbrev pub inspect_app : App
+inspect_app = with_rule (with_rule (with_rule (with_rule (with_rule (with_rule (with_rule (bare_app (codes "inspect")) (place_of (codes "file"))) (place_of (codes "journal"))) (place_of (codes "at"))) (valued_of (codes "limit"))) (valued_of (codes "restore"))) (valued_of (codes "vector"))) (valued_of (codes "sector"))
 
 -- ---- as clap completes them
 

@@ -1,26 +1,44 @@
 -- The table of commands: what the words of a command line say.
-use Rattle.std.specs.Prelude.{◌==◌, ◌&&◌, ◌||◌, ◌+◌, ◌*◌, ◌-◌, nat_le, nat_lt, length, ℕ, List, [], ◌∷◌, Option, Some, None, option_and_then, option_map, codes, if◌then◌else◌}
+use Rattle.std.specs.Prelude.{◌||◌, nat_lt, ℕ, false, List, [], ◌∷◌, Option, Some, None, option_and_then, option_map, codes, if◌then◌else◌}
 use Rattle.std.specs.Str.{bytes_eq}
+use Rattle.text_reader.specs.Word.{cut_at}
+use Rattle.text_reader.specs.Digits.{numeral}
 use Rattle.vm_cmd.specs.Word.{Word}
 use Rattle.vm_cmd.specs.Form.{Form, Use, reads, given, value_of}
 use Rattle.vm_cmd.specs.declared.command.Command.{Command}
-use Rattle.vm_cmd.specs.declared.command.Command.TheVariants.{Run, Solo, Replay, Show, Asm, Make}
+use Rattle.vm_cmd.specs.declared.command.Command.TheVariants.{Run, Solo, Replay, Show, Asm, Make, Convert, Arrive, Inspect}
 use Rattle.vm_cmd.specs.declared.command.RunWords.{RunWords}
+use Rattle.vm_cmd.specs.declared.command.InspectWords.{InspectWords}
+
+infixl 10 ◌>>=◌
+abbrev pub ◌>>=◌ : {A B : Type 0} → Option A → (A → Option B) → Option B
+o >>= f = option_and_then f o
 
 -- ---- numbers
-
--- decimal digits (48 to 57), after the digits of n
-abbrev pub digits_from : ℕ → Word → Option ℕ
-digits_from n [] = Some n
-digits_from n (b ∷ bs) = if nat_le 48 b && nat_le b 57 then digits_from (n * 10 + (b - 48)) bs else None
 
 abbrev pub within : ℕ → ℕ → ℕ → Option ℕ
 within low high n = if nat_lt n low || nat_lt high n then None else Some n
 
 -- 1 to `most` decimal digits, of a number from low to high
 abbrev pub number_in : ℕ → ℕ → ℕ → Word → Option ℕ
-number_in most low high text =
-    if length text == 0 || nat_lt most (length text) then None else option_and_then (within low high) (digits_from 0 text)
+number_in most low high text = option_and_then (within low high) (numeral 10 most text)
+
+-- 1 to 9 decimal digits
+abbrev pub counter_of : Word → Option ℕ
+counter_of text = numeral 10 9 text
+
+-- two of them with a colon (58) between them
+abbrev pub pair_of : Word → Option (ℕ × ℕ)
+pair_of text = do
+  p ← cut_at 58 text
+  first ← counter_of p.0
+  second ← counter_of p.1
+  Some (first, second)
+
+-- what an option with two numbers says, which may be left out
+abbrev pub pair_option : Option Word → Option (Option (ℕ × ℕ))
+pair_option None = Some None
+pair_option (Some text) = option_map (λ p. Some p) (pair_of text)
 
 -- the limit of instructions: 1 to 20,000,000, and 10,000,000 where none is given
 abbrev pub limit_of : Option Word → Option ℕ
@@ -28,10 +46,6 @@ limit_of None = Some 10000000
 limit_of (Some text) = number_in 8 1 20000000 text
 
 -- ---- the rows
-
-infixl 10 ◌>>=◌
-abbrev pub ◌>>=◌ : {A B : Type 0} → Option A → (A → Option B) → Option B
-o >>= f = option_and_then f o
 
 -- run CONFIG, solo FILE: --limit N, --journal FILE, --restore FILE, --state
 abbrev pub run_form : Form
@@ -61,15 +75,15 @@ show_form = record { places = codes "config" ∷ []; options = []; flags = [] }
 abbrev pub show_of_uses : List Use → Option Command
 show_of_uses us = option_map Show (value_of us (codes "config"))
 
--- asm FILE OUT
-abbrev pub asm_form : Form
-asm_form = record { places = codes "file" ∷ codes "out" ∷ []; options = []; flags = [] }
+-- asm FILE OUT, convert FILE OUT, arrive STREAM OUT
+abbrev pub files_form : Form
+files_form = record { places = codes "file" ∷ codes "out" ∷ []; options = []; flags = [] }
 
-abbrev pub asm_of_uses : List Use → Option Command
-asm_of_uses us = do
+abbrev pub files_of_uses : List Use → Option (Word × Word)
+files_of_uses us = do
   file ← value_of us (codes "file")
   out ← value_of us (codes "out")
-  Some (Asm file out)
+  Some (file, out)
 
 -- make CPUS NUMBER: 1 to 16, and any number of 32 bits
 abbrev pub make_form : Form
@@ -80,6 +94,20 @@ make_of_uses us = do
   cpus ← option_and_then (number_in 10 1 16) (value_of us (codes "cpus"))
   number ← option_and_then (number_in 10 0 4294967295) (value_of us (codes "number"))
   Some (Make cpus number)
+
+-- inspect FILE JOURNAL AT: --limit N, --restore FILE, --vector I:V, --sector D:S
+abbrev pub inspect_form : Form
+inspect_form = record { places = codes "file" ∷ codes "journal" ∷ codes "at" ∷ []; options = codes "limit" ∷ codes "restore" ∷ codes "vector" ∷ codes "sector" ∷ []; flags = [] }
+
+abbrev pub inspect_of_uses : List Use → Option Command
+inspect_of_uses us = do
+  file ← value_of us (codes "file")
+  limit ← limit_of (value_of us (codes "limit"))
+  journal ← value_of us (codes "journal")
+  at ← option_and_then counter_of (value_of us (codes "at"))
+  vector ← pair_option (value_of us (codes "vector"))
+  sector ← pair_option (value_of us (codes "sector"))
+  Some (Inspect (record { file = file; limit = limit; journal = None; restore = value_of us (codes "restore"); state = false }) (record { journal = journal; at = at; vector = vector; sector = sector }))
 
 -- what the words after the command's say, by its row
 abbrev pub row : {A : Type 0} → Form → (List Use → Option A) → List Word → Option A
@@ -93,6 +121,9 @@ command_of (name ∷ words) =
     else if bytes_eq name (codes "solo") then option_map Solo (row run_form run_of_uses words)
     else if bytes_eq name (codes "replay") then row replay_form replay_of_uses words
     else if bytes_eq name (codes "show") then row show_form show_of_uses words
-    else if bytes_eq name (codes "asm") then row asm_form asm_of_uses words
+    else if bytes_eq name (codes "asm") then option_map (λ f. Asm f.0 f.1) (row files_form files_of_uses words)
     else if bytes_eq name (codes "make") then row make_form make_of_uses words
+    else if bytes_eq name (codes "convert") then option_map (λ f. Convert f.0 f.1) (row files_form files_of_uses words)
+    else if bytes_eq name (codes "arrive") then option_map (λ f. Arrive f.0 f.1) (row files_form files_of_uses words)
+    else if bytes_eq name (codes "inspect") then row inspect_form inspect_of_uses words
     else None

@@ -1,7 +1,7 @@
 //! The commands that `clap` reads by, one for each row of the table.
 ghost use Rattle.std.specs.Prelude.{◌≡◌, false, true, IfOk, Some};
 ghost use Rattle.clap.specs.Words.{app_of, rule_of};
-ghost use Rattle.vm_cmd.specs.Shapes.{place_of, valued_of, flag_of, bare_app, run_app, replay_app, show_app, asm_app, make_app};
+ghost use Rattle.vm_cmd.specs.Shapes.{place_of, valued_of, flag_of, bare_app, run_app, replay_app, show_app, files_app, make_app, inspect_app};
 
 use clap::{Arg, ArgAction, Command};
 use std::alloc::{AllocError, Global};
@@ -83,13 +83,13 @@ pub fn show_command<'a>(alloc: Global) -> Result<Command<'a>, AllocError>
     Ok(command)
 }
 
-/// The row of `asm`.
-pub fn asm_command<'a>(alloc: Global) -> Result<Command<'a>, AllocError>
-    ensures { IfOk result (λ c. app_of c ≡ asm_app) }
+/// The row of `asm`, `convert` and `arrive`.
+pub fn files_command<'a>(alloc: Global) -> Result<Command<'a>, AllocError>
+    ensures { IfOk result (λ c. app_of c ≡ files_app) }
 {
     let file = place(alloc, "file");
     let out = place(alloc, "out");
-    let command = bare(alloc, "asm").arg(file)?.arg(out)?;
+    let command = bare(alloc, "files").arg(file)?.arg(out)?;
     Ok(command)
 }
 
@@ -100,5 +100,27 @@ pub fn make_command<'a>(alloc: Global) -> Result<Command<'a>, AllocError>
     let cpus = place(alloc, "cpus");
     let number = place(alloc, "number");
     let command = bare(alloc, "make").arg(cpus)?.arg(number)?;
+    Ok(command)
+}
+
+/// The row of `inspect`.
+pub fn inspect_command<'a>(alloc: Global) -> Result<Command<'a>, AllocError>
+    ensures { IfOk result (λ c. app_of c ≡ inspect_app) }
+{
+    let file = place(alloc, "file");
+    let journal = place(alloc, "journal");
+    let at = place(alloc, "at");
+    let limit = valued(alloc, "limit");
+    let restore = valued(alloc, "restore");
+    let vector = valued(alloc, "vector");
+    let sector = valued(alloc, "sector");
+    let command = bare(alloc, "inspect")
+        .arg(file)?
+        .arg(journal)?
+        .arg(at)?
+        .arg(limit)?
+        .arg(restore)?
+        .arg(vector)?
+        .arg(sector)?;
     Ok(command)
 }

@@ -25,12 +25,18 @@ pub enum Command {
         /// The number that the counts are made of.
         number: u32,
     },
+    /// Writes the checkpoint in the first file to the second, as one file of the newest version.
+    Convert(Text, Text),
+    /// Takes the machine from the stream in the first file, and writes it as a checkpoint to the second.
+    Arrive(Text, Text),
+    /// Shows what a journal says of the machine at one of its entries. Its words hold no journal and no state.
+    Inspect(RunWords, InspectWords),
 }
 
 /// What a run is told.
 #[derive(Debug, Drop)]
 pub struct RunWords {
-    /// The configuration or the flat image. It isn't empty and doesn't begin with `-`, nor do the other files.
+    /// The configuration or the flat image.
     pub file: Text,
     /// The greatest number of instructions, 1 to 20,000,000; 10,000,000 where the words give none.
     pub limit: u64,
@@ -42,11 +48,24 @@ pub struct RunWords {
     pub state: bool,
 }
 
+/// What is shown of a journal.
+#[derive(Debug, Drop)]
+pub struct InspectWords {
+    /// The file that holds the journal.
+    pub journal: Text,
+    /// After how many entries, below 10^9.
+    pub at: u32,
+    /// The vCPU and the vector whose last posting is sought, both below 10^9.
+    pub vector: Option<(u32, u32)>,
+    /// The disk and the sector whose last write is sought, both below 10^9.
+    pub sector: Option<(u32, u32)>,
+}
+
 /// Why no command was read.
 #[derive(Clone, Copy, Debug, PartialEq, Eq, Error)]
 pub enum CmdError {
     /// The words are outside the table of commands.
-    #[error("usage: vmrun run|solo|replay|show|asm|make")]
+    #[error("usage: vmrun run|solo|replay|show|asm|make|convert|arrive|inspect")]
     Usage,
     /// Memory was refused.
     #[error("out of memory")]

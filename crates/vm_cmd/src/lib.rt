@@ -15,5 +15,5 @@ mod reading;
 mod tests;
 mod word;
 
-pub use command::{CmdError, Command, RunWords};
+pub use command::{CmdError, Command, InspectWords, RunWords};
 pub use reading::read;

@@ -8,10 +8,10 @@ ghost use Rattle.vm_cmd.specs.Form.{Form};
 ghost use Rattle.vm_cmd.specs.Shapes.{MadeOf};
 ghost use Rattle.vm_cmd.specs.Matched.{Matches, is_line};
 ghost use Rattle.vm_cmd.specs.Answers.{Answers};
-ghost use Rattle.vm_cmd.specs.Table.{limit_of, number_in};
+ghost use Rattle.vm_cmd.specs.Table.{limit_of, number_in, counter_of, pair_option};
 
 use crate::command::CmdError;
-use crate::number::number;
+use crate::number::{counter_of, number, pair_option};
 use crate::word::all_allowed;
 use clap::error::ErrorKind;
 use clap::parser::ValueSource;
@@ -94,4 +94,18 @@ pub fn limit_of(matches: &ArgMatches) -> Option<u64>
         Some(text) => number(text, 8, 1, 20_000_000),
         None => Some(10_000_000),
     }
+}
+
+/// The number of a place, in 1 to 9 digits.
+pub fn counter_at(matches: &ArgMatches, id: &str) -> Option<u32>
+    ensures { result ≡ option_and_then counter_of (first_value (found_of matches.now) id.now) }
+{
+    counter_of(matches.get_str(id)?)
+}
+
+/// The two numbers of an option, if it was given; `None` where its value has another form.
+pub fn pair_at(matches: &ArgMatches, id: &str) -> Option<Option<(u32, u32)>>
+    ensures { result ≡ pair_option (first_value (found_of matches.now) id.now) }
+{
+    pair_option(matches.get_str(id))
 }

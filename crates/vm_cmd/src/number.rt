@@ -1,30 +1,42 @@
-//! Decimal numbers.
-ghost use Rattle.std.specs.Prelude.{◌≡◌, ◌≤◌, length};
-ghost use Rattle.vm_cmd.specs.Table.{number_in, digits_from};
+//! Numbers in decimal digits, and pairs of them.
+ghost use Rattle.std.specs.Prelude.{◌≡◌, ◌≤◌, ◌^◌, option_map};
+ghost use Rattle.vm_cmd.specs.Table.{number_in, counter_of, pair_of, pair_option};
+
+use text_reader::{cut_at, numeral};
 
 /// A number from `low` to `high` in 1 to `most` decimal digits.
 pub fn number(text: &str, most: usize, low: u64, high: u64) -> Option<u64>
-    requires { most ≤ 10 }
+    requires { 10 ^ most ≤ 2 ^ 64 }
     ensures { result ≡ number_in most low high text.now }
 {
-    let digits = text.as_bytes();
-    if digits.is_empty() || digits.len() > most {
-        return None;
-    }
-    let n = digits_of(digits)?;
+    let n = numeral(text, 10, most)?;
     if n < low || n > high { None } else { Some(n) }
 }
 
-fn digits_of(digits: &[u8]) -> Option<u64>
-    requires { length digits.now ≤ 10 }
-    ensures { result ≡ digits_from 0 digits.now }
+/// A number in 1 to 9 decimal digits.
+pub fn counter_of(text: &str) -> Option<u32>
+    ensures { result ≡ counter_of text.now }
 {
-    let mut n = 0u64;
-    for b in digits {
-        if !(b'0'..=b'9').contains(b) {
-            return None;
-        }
-        n = n * 10 + u64::from(*b - b'0');
+    let n = numeral(text, 10, 9)?;
+    Some(n as u32)
+}
+
+/// Two numbers with a colon between them.
+fn pair_of(text: &str) -> Option<(u32, u32)>
+    ensures { result ≡ pair_of text.now }
+{
+    let (first, second) = cut_at(text, ':')?;
+    let first = counter_of(first)?;
+    let second = counter_of(second)?;
+    Some((first, second))
+}
+
+/// What an option says whose value is two numbers, and which may be left out.
+pub fn pair_option(text: Option<&str>) -> Option<Option<(u32, u32)>>
+    ensures { result ≡ pair_option (option_map (λ t. t.now) text.entry) }
+{
+    match text {
+        Some(text) => Some(Some(pair_of(text)?)),
+        None => Some(None),
     }
-    Some(n)
 }

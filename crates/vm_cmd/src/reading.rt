@@ -4,18 +4,23 @@ ghost use Rattle.vm_cmd.specs.Word.{texts};
 ghost use Rattle.vm_cmd.specs.Form.{Use};
 ghost use Rattle.vm_cmd.specs.Matched.{Holds};
 ghost use Rattle.vm_cmd.specs.Answers.{Answers};
-ghost use Rattle.vm_cmd.specs.Table.{command_of, row, run_form, run_of_uses, replay_form, replay_of_uses, show_form, show_of_uses, asm_form, asm_of_uses, make_form, make_of_uses};
+ghost use Rattle.vm_cmd.specs.Table.{command_of, row, run_form, run_of_uses, replay_form, replay_of_uses, show_form, show_of_uses, files_form, files_of_uses, make_form, make_of_uses, inspect_form, inspect_of_uses};
 
-use crate::builder::{asm_command, make_command, replay_command, run_command, show_command};
-use crate::command::{CmdError, Command, RunWords};
-use crate::matched::{limit_of, matched, number_of, place_of, text_of, was_given};
+use crate::builder::{
+    files_command, inspect_command, make_command, replay_command, run_command, show_command,
+};
+use crate::command::{CmdError, Command, InspectWords, RunWords};
+use crate::matched::{
+    counter_at, limit_of, matched, number_of, pair_at, place_of, text_of, was_given,
+};
 use clap::ArgMatches;
 use std::alloc::Global;
+use vm_law::Text;
 
 /// The command that the words give, without the program's name.
 ///
 /// The first word is the command. Options stand anywhere after it, each at most once, as `--name value` or `--name=value`.
-/// Any other word that begins with `-` is refused, also in a value's place. No word and no value is empty.
+/// Any other word that begins with `-` is refused, also as a value's own word. No word and no value is empty.
 ///
 /// `Usage` comes exactly where the words are outside the table. `Memory` may be the answer to any words.
 pub fn read(alloc: Global, words: &[&str]) -> Result<Command, CmdError>
@@ -38,6 +43,9 @@ fn command_of(alloc: Global, words: &[&str]) -> Result<Command, CmdError>
         "show" => show(alloc, rest),
         "asm" => asm(alloc, rest),
         "make" => make(alloc, rest),
+        "convert" => convert(alloc, rest),
+        "arrive" => arrive(alloc, rest),
+        "inspect" => inspect(alloc, rest),
         _ => Err(CmdError::Usage),
     }
 }
@@ -124,18 +132,39 @@ fn show_of(alloc: Global, matches: &ArgMatches) -> Result<Command, CmdError>
 }
 
 fn asm(alloc: Global, words: &[&str]) -> Result<Command, CmdError>
-    ensures { Answers result (row asm_form asm_of_uses (texts words.now)) }
+    ensures { Answers result (option_map (λ f. Command.Asm f.0 f.1) (row files_form files_of_uses (texts words.now))) }
 {
-    let matches = matched(asm_command(alloc), words)?;
-    asm_of(alloc, &matches)
+    let (file, out) = files(alloc, words)?;
+    Ok(Command::Asm(file, out))
 }
 
-fn asm_of(alloc: Global, matches: &ArgMatches) -> Result<Command, CmdError>
-    ensures { (us : List Use) → Holds asm_form us matches.now → Answers result (asm_of_uses us) }
+fn convert(alloc: Global, words: &[&str]) -> Result<Command, CmdError>
+    ensures { Answers result (option_map (λ f. Command.Convert f.0 f.1) (row files_form files_of_uses (texts words.now))) }
+{
+    let (file, out) = files(alloc, words)?;
+    Ok(Command::Convert(file, out))
+}
+
+fn arrive(alloc: Global, words: &[&str]) -> Result<Command, CmdError>
+    ensures { Answers result (option_map (λ f. Command.Arrive f.0 f.1) (row files_form files_of_uses (texts words.now))) }
+{
+    let (file, out) = files(alloc, words)?;
+    Ok(Command::Arrive(file, out))
+}
+
+fn files(alloc: Global, words: &[&str]) -> Result<(Text, Text), CmdError>
+    ensures { Answers result (row files_form files_of_uses (texts words.now)) }
+{
+    let matches = matched(files_command(alloc), words)?;
+    files_of(alloc, &matches)
+}
+
+fn files_of(alloc: Global, matches: &ArgMatches) -> Result<(Text, Text), CmdError>
+    ensures { (us : List Use) → Holds files_form us matches.now → Answers result (files_of_uses us) }
 {
     let file = place_of(alloc, matches, "file")?;
     let out = place_of(alloc, matches, "out")?;
-    Ok(Command::Asm(file, out))
+    Ok((file, out))
 }
 
 fn make(alloc: Global, words: &[&str]) -> Result<Command, CmdError>
@@ -157,4 +186,45 @@ fn make_of(matches: &ArgMatches) -> Option<Command>
         cpus: cpus as u8,
         number: number as u32,
     })
+}
+
+fn inspect(alloc: Global, words: &[&str]) -> Result<Command, CmdError>
+    ensures { Answers result (row inspect_form inspect_of_uses (texts words.now)) }
+{
+    let matches = matched(inspect_command(alloc), words)?;
+    inspect_of(alloc, &matches)
+}
+
+fn inspect_of(alloc: Global, matches: &ArgMatches) -> Result<Command, CmdError>
+    ensures { (us : List Use) → Holds inspect_form us matches.now → Answers result (inspect_of_uses us) }
+{
+    let file = place_of(alloc, matches, "file")?;
+    let Some(limit) = limit_of(matches) else {
+        return Err(CmdError::Usage);
+    };
+    let restore = text_of(alloc, matches, "restore")?;
+    let journal = place_of(alloc, matches, "journal")?;
+    let Some(at) = counter_at(matches, "at") else {
+        return Err(CmdError::Usage);
+    };
+    let Some(vector) = pair_at(matches, "vector") else {
+        return Err(CmdError::Usage);
+    };
+    let Some(sector) = pair_at(matches, "sector") else {
+        return Err(CmdError::Usage);
+    };
+    let run = RunWords {
+        file,
+        limit,
+        journal: None,
+        restore,
+        state: false,
+    };
+    let words = InspectWords {
+        journal,
+        at,
+        vector,
+        sector,
+    };
+    Ok(Command::Inspect(run, words))
 }

@@ -7,6 +7,7 @@ use Rattle.vm_host.specs.Kinds.{lent_of, made_by}
 use Rattle.vm_host.specs.declared.event.Kind.{Kind}
 use Rattle.vm_host.specs.declared.event.Kind.TheVariants.{Made, Wrote, Held, Lent}
 use Rattle.vm_host.specs.Past.{Change, file_of, LeftBy, LeftNow, LeftSince, made_at, given_back, Reads}
+use Rattle.vm_host.specs.PastLaws.{since_earlier}
 use Rattle.vm_host.proofs.Pasts.{itself, other_name, now_since, same_name}
 
 abbrev pub back : Change → List ℕ → Change
@@ -117,7 +118,7 @@ own_since past name b q t x some same =
 differs : (q name : List ℕ) → bytes_eq q name ≡ false → q ≢ name
 differs q name differ same = let agree = ap (λ (n : List ℕ). bytes_eq n name) same ∙ itself name in cc
 
-pub passes_back : (past : List Change) (name b : List ℕ) → IsSome (file_of past name) → Passes name (length past) (length (given_back past name b)) (LeftSince past) (LeftSince (given_back past name b))
+pub passes_back : (past : List Change) (name b : List ℕ) → IsSome (file_of past name) → Passes (λ q. q ≡ name) (length past) (length (given_back past name b)) (LeftSince past) (LeftSince (given_back past name b))
 passes_back past name b some = record {
   later = omega (arith, length-given_back past name b);
   nothing_else = λ q t x le h. by_bool (bytes_eq q name) (λ _. LeftSince past q t x ⊎ LeftSince (given_back past name b) q (length past) x)
@@ -126,6 +127,7 @@ passes_back past name b some = record {
   keeps = λ q t x le h. by_bool (bytes_eq q name) (λ _. LeftSince (given_back past name b) q t x)
       (λ same. own_since past name b q t x some same)
       (λ differ. subst (λ (l : ℕ → List ℕ → Type 0). l t x) (sym (other_since past name b q (differs q name differ))) h);
+  earlier = since_earlier (given_back past name b);
   others = λ q x ne h. subst (λ (l : ℕ → List ℕ → Type 0). l (length past) x) (other_since past name b q ne) h;
 }
 

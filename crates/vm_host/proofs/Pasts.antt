@@ -5,9 +5,10 @@ use Rattle.std.proofs.lemmas.Slice.Eq.{bytes_eq-Decides}
 use Rattle.std.proofs.lemmas.Bool.{false_from_ne_true}
 use Rattle.std.proofs.lemmas.List.{at_drop_more, take_rest}
 use Rattle.vm_host.specs.Files.{IsWritten}
-use Rattle.vm_host.specs.Crash.{Torn, Passes, AddsNothing, AddsTorn, Only, ReadsNow}
+use Rattle.vm_host.specs.Crash.{Torn, Passes, AddsNothing, AddsTorn, Only, SinceEarlier}
 use Rattle.vm_host.specs.declared.event.Kind.TheVariants.{Made, Wrote, Held, Lent}
 use Rattle.vm_host.specs.Past.{Change, file_of, LeftBy, LeftNow, LeftSince, Reads}
+use Rattle.vm_host.specs.PastLaws.{since_earlier}
 
 pub same_name : (q name : List ℕ) → bytes_eq q name ≡ true → q ≡ name
 same_name q name e = (bytes_eq-Decides q name).0 e
@@ -47,14 +48,18 @@ since_now [] q b h = h
 since_now (e ∷ es) q b (inl now) = now
 since_now (e ∷ es) q b (inr older) = absurd (omega (arith, older.0))
 
-pub reads_now : (es : List Change) → Reads es → ReadsNow (length es) (LeftSince es) (file_of es)
+-- a crash now may leave what files read as
+abbrev pub ReadsPast : List Change → Type 0
+ReadsPast es = (q b : List ℕ) → file_of es q ≡ Some b → LeftSince es q (length es) b
+
+pub reads_now : (es : List Change) → Reads es → ReadsPast es
 reads_now es reads q b is = now_since es q (length es) b (reads q b is)
 
 pub nothing_new : (es : List Change) → AddsNothing (length es) (length es) (LeftSince es) (LeftSince es)
-nothing_new es = record { later = omega arith; nothing_else = λ q t b le h. h; keeps = λ q t b le h. h }
+nothing_new es = record { later = omega arith; nothing_else = λ q t b le h. h; keeps = λ q t b le h. h; earlier = since_earlier es }
 
-pub passes_same : (es : List Change) (name : List ℕ) → Passes name (length es) (length es) (LeftSince es) (LeftSince es)
-passes_same es name = record { later = omega arith; nothing_else = λ q t b le h. inl h; keeps = λ q t b le h. h; others = λ q b ne h. h }
+pub passes_same : (es : List Change) (name : List ℕ) → Passes (λ q. q ≡ name) (length es) (length es) (LeftSince es) (LeftSince es)
+passes_same es name = record { later = omega arith; nothing_else = λ q t b le h. inl h; keeps = λ q t b le h. h; earlier = since_earlier es; others = λ q b ne h. h }
 
 module _ (es : List Change) (e : Change) where
   others_now : (q b : List ℕ) → q ≢ e.name → LeftNow (e ∷ es) q b → LeftNow es q b
@@ -68,11 +73,12 @@ module _ (es : List Change) (e : Change) where
   since_start q b (inl now) = inl now
   since_start q b (inr older) = inr (since_now es q b older.1)
 
-  pub passes_push : Passes e.name (length es) (length (e ∷ es)) (LeftSince es) (LeftSince (e ∷ es))
+  pub passes_push : Passes (λ q. q ≡ e.name) (length es) (length (e ∷ es)) (LeftSince es) (LeftSince (e ∷ es))
   passes_push = record {
     later = omega arith;
     nothing_else = λ q t b le h. ⊎_elim (λ now. inr (inl now)) (λ older. inl older.1) h;
     keeps = λ q t b le h. inr (le, h);
+    earlier = since_earlier (e ∷ es);
     others = λ q b ne h. now_since es q (length es) b (⊎_elim (others_now q b ne) (λ was. was) (since_start q b h));
   }
 
@@ -111,8 +117,8 @@ file_next items i item q within is test =
     ∙ ap (λ (x : Change). file_of (x ∷ drop (i + 1) items) q) (sym is)
     ∙ ap (λ (t : Bool). if t then Some item.bytes else file_of (drop (i + 1) items) q) test
 
-pub passes_to : (es past : List Change) (e : Change) → past ≡ e ∷ es → Passes e.name (length es) (length past) (LeftSince es) (LeftSince past)
-passes_to es past e is = subst (λ (p : List Change). Passes e.name (length es) (length p) (LeftSince es) (LeftSince p)) (sym is) (passes_push es e)
+pub passes_to : (es past : List Change) (e : Change) → past ≡ e ∷ es → Passes (λ q. q ≡ e.name) (length es) (length past) (LeftSince es) (LeftSince past)
+passes_to es past e is = subst (λ (p : List Change). Passes (λ q. q ≡ e.name) (length es) (length p) (LeftSince es) (LeftSince p)) (sym is) (passes_push es e)
 
 pub torn_to : (es past : List Change) (name bytes : List ℕ) (at len : ℕ) → past ≡ record { name = name; bytes = bytes; kind = Wrote at len } ∷ es → AddsTorn at len (LeftSince es name (length es)) (LeftSince past name (length es))
 torn_to es past name bytes at len is = subst (λ (p : List Change). AddsTorn at len (LeftSince es name (length es)) (LeftSince p name (length es))) (sym is) (torn_push es name bytes at len)
@@ -130,7 +136,7 @@ held_now true bytes b Rest own is = subst Rest (sym is) (own refl)
 held_now false bytes b Rest own rest = rest
 
 -- a file that is kept as it reads adds nothing
-pub held_push : (es : List Change) (name bytes : List ℕ) → file_of es name ≡ Some bytes → ReadsNow (length es) (LeftSince es) (file_of es) → AddsNothing (length es) (length (record { name = name; bytes = bytes; kind = Held } ∷ es)) (LeftSince es) (LeftSince (record { name = name; bytes = bytes; kind = Held } ∷ es))
+pub held_push : (es : List Change) (name bytes : List ℕ) → file_of es name ≡ Some bytes → ReadsPast es → AddsNothing (length es) (length (record { name = name; bytes = bytes; kind = Held } ∷ es)) (LeftSince es) (LeftSince (record { name = name; bytes = bytes; kind = Held } ∷ es))
 held_push es name bytes is reads = record {
   later = omega arith;
   nothing_else = λ q t b le h. ⊎_elim
@@ -138,7 +144,8 @@ held_push es name bytes is reads = record {
       (λ older. older.1)
       h;
   keeps = λ q t b le h. inr (le, h);
+  earlier = since_earlier (record { name = name; bytes = bytes; kind = Held } ∷ es);
 }
 
-pub held_to : (es past : List Change) (name bytes : List ℕ) → past ≡ record { name = name; bytes = bytes; kind = Held } ∷ es → file_of es name ≡ Some bytes → ReadsNow (length es) (LeftSince es) (file_of es) → AddsNothing (length es) (length past) (LeftSince es) (LeftSince past)
+pub held_to : (es past : List Change) (name bytes : List ℕ) → past ≡ record { name = name; bytes = bytes; kind = Held } ∷ es → file_of es name ≡ Some bytes → ReadsPast es → AddsNothing (length es) (length past) (LeftSince es) (LeftSince past)
 held_to es past name bytes to is reads = subst (λ (p : List Change). AddsNothing (length es) (length p) (LeftSince es) (LeftSince p)) (sym to) (held_push es name bytes is reads)

@@ -1,5 +1,6 @@
--- Counts of refusals, which never fall and stand still at the end of their type.
-use Rattle.std.specs.Prelude.{◌≡◌, ℕ, ◌+◌, ◌-◌, ◌^◌, ◌≤◌, ◌<◌, min, Result, OnOk, OnErr, IsErrOf}
+-- Counts of refusals, which never fall and stand still at the end of their type, and the name of the last failure.
+use Rattle.std.specs.Prelude.{◌≡◌, ℕ, ◌+◌, ◌-◌, ◌^◌, ◌≤◌, ◌<◌, min, List, take, Result, OnOk, OnErr, IsErrOf}
+use Rattle.vm_host.specs.Views.{HostView}
 use Rattle.vm_host.specs.declared.host.HostFault.{HostFault}
 use Rattle.vm_host.specs.declared.host.HostFault.TheVariants.{Failed, Missing}
 
@@ -25,11 +26,20 @@ pub record RoseExactly (P : Type 0) (before now : ℕ) : Type 0 where
   pub rises : P → Rose before now
   pub stays : (P → ⊥) → now ≡ before
 
--- the two counts of a host: each of its refusals but want of memory raises its own count, and nothing else does
-pub record HasCause {T : Type 0} (faults faults_now misses misses_now : ℕ) (result : Result T HostFault) : Type 0 where
-  pub later : faults ≤ faults_now
-  pub later_misses : misses ≤ misses_now
-  pub failed : IsErrOf result Failed → Rose faults faults_now
-  pub missing : IsErrOf result Missing → Rose misses misses_now
-  pub only_failed : faults < faults_now → IsErrOf result Failed
-  pub only_missing : misses < misses_now → IsErrOf result Missing
+-- the two counts of a host: each of its refusals but want of memory raises its own count, and nothing else does. The name
+-- that a call was about is told from its Failed on, and stays over every other answer.
+pub record HasCause {T : Type 0} (name : List ℕ) (old new : HostView) (result : Result T HostFault) : Type 0 where
+  pub later : old.faults ≤ new.faults
+  pub later_misses : old.misses ≤ new.misses
+  pub failed : IsErrOf result Failed → Rose old.faults new.faults
+  pub missing : IsErrOf result Missing → Rose old.misses new.misses
+  pub only_failed : old.faults < new.faults → IsErrOf result Failed
+  pub only_missing : old.misses < new.misses → IsErrOf result Missing
+  pub named : IsErrOf result Failed → new.failed ≡ take 4096 name
+  pub still_named : (IsErrOf result Failed → ⊥) → new.failed ≡ old.failed
+
+-- no host call was refused
+pub record SameCounts (old new : HostView) : Type 0 where
+  pub faults : new.faults ≡ old.faults
+  pub misses : new.misses ≡ old.misses
+  pub failed : new.failed ≡ old.failed

@@ -1,8 +1,9 @@
 -- What files, images and sinks in memory are seen as.
-use Rattle.std.specs.Prelude.{◌≡◌, ℕ, ◌+◌, ◌-◌, ◌^◌, ◌==◌, min, max, Bool, true, IsTrue, List, Some, None, not, if◌then◌else◌, Result, Err, IsErrOf}
+use Rattle.std.specs.Prelude.{◌≡◌, ℕ, ◌+◌, ◌-◌, ◌^◌, ◌==◌, min, max, Bool, true, IsTrue, List, length, take, Some, None, not, if◌then◌else◌, Result, Err, IsErrOf}
 use Rattle.std.specs.List.{list_any, filter, filter_map}
 use Rattle.std.specs.Str.{bytes_eq}
-use Rattle.vm_host.specs.Past.{Change}
+use Rattle.vm_host.specs.Views.{HostView, ImageView, SinkView}
+use Rattle.vm_host.specs.Past.{Change, file_of, made_at, LeftSince}
 use Rattle.vm_host.specs.declared.host.HostFault.{HostFault}
 use Rattle.vm_host.specs.declared.host.HostFault.TheVariants.{Failed}
 
@@ -17,12 +18,13 @@ pub record ImageCall : Type 0 where
   pub name : List ℕ
   pub call : ℕ
 
--- files: the changes, the newest first, the calls, the calls of images that are to fail, and the counts
+-- files: the changes, the newest first, the calls, the calls of images that are to fail, the counts, and the name of the last failure
 pub record HostState : Type 0 where
   pub past : List Change
   pub calls : CallState
   pub failing_images : List ImageCall
   pub misses : ℕ
+  pub failed : List ℕ
   pub image_faults : ℕ
 
 -- an image: its bytes, its calls, and how many syncs it has done
@@ -35,6 +37,31 @@ pub record ImageState : Type 0 where
 pub record SinkState : Type 0 where
   pub bytes : List ℕ
   pub calls : CallState
+
+-- a text: the bytes that are left, and how many come at once at most
+pub record TextState : Type 0 where
+  pub left : List ℕ
+  pub most : ℕ
+
+-- what clauses of the traits see of them
+abbrev pub host_view : HostState → HostView
+host_view m = record {
+  tells = true;
+  file = file_of m.past;
+  faults = m.calls.faults;
+  misses = m.misses;
+  failed = m.failed;
+  image_faults = m.image_faults;
+  moment = length m.past;
+  made = made_at m.past;
+  left = LeftSince m.past;
+}
+
+abbrev pub image_view : ImageState → ImageView
+image_view i = record { tells = true; content = i.bytes; faults = i.calls.faults; syncs = i.syncs }
+
+abbrev pub sink_view : SinkState → SinkView
+sink_view s = record { tells = true; taken = s.bytes; faults = s.calls.faults }
 
 -- before the first call
 abbrev pub no_calls : List ℕ → CallState
@@ -55,9 +82,14 @@ IsListed calls = IsTrue (is_listed calls)
 abbrev pub after_call : Bool → CallState → CallState
 after_call fails calls = record calls { next = one_more calls.next; faults = if fails then one_more calls.faults else calls.faults }
 
--- a listed call of a host answers that it failed, counts that and changes nothing else
-abbrev pub FailsWhereListed : {T : Type 0} → HostState → HostState → Result T HostFault → Type 0
-FailsWhereListed old new result = IsListed old.calls → (result ≡ Err Failed) × (new ≡ record old { calls = after_call true old.calls })
+-- the name of the last failure, after a call on this name that failed, or that didn't
+abbrev pub failed_after : Bool → List ℕ → List ℕ → List ℕ
+failed_after fails name before = if fails then take 4096 name else before
+
+-- a listed call of a host answers that it failed, counts that, tells its name and changes nothing else
+abbrev pub FailsWhereListed : {T : Type 0} → List ℕ → HostState → HostState → Result T HostFault → Type 0
+FailsWhereListed name old new result =
+    IsListed old.calls → (result ≡ Err Failed) × (new ≡ record old { calls = after_call true old.calls; failed = take 4096 name })
 
 -- no other call of it answers that it failed
 abbrev pub FailsOnlyListed : {T : Type 0} → HostState → Result T HostFault → Type 0

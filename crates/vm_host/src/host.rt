@@ -1,10 +1,12 @@
 //! A file system: files by name, which are read, made, written, synced, and lent as disk images.
-ghost use Rattle.std.specs.Prelude.{◌≡◌, ◌≤◌, ◌<◌, Bool, true, List, [], ℕ, length, Option, Some, None, IsSome, IfOk, IfSome, OnOk, IsErrOf, IsSomeAnd, OnErr};
+ghost use Rattle.std.specs.Prelude.{◌≡◌, ◌≤◌, ◌<◌, true, List, [], ℕ, length, Some, None, IsSome, IfOk, IfSome, OnOk, IsErrOf, IsSomeAnd, OnErr};
 ghost use Rattle.vm_host.specs.declared.host.HostFault.TheVariants.{Missing, Failed};
 ghost use Rattle.vm_host.specs.Told.{WhereTold};
-ghost use Rattle.vm_host.specs.Counts.{HasCause, RoseExactly};
-ghost use Rattle.vm_host.specs.Files.{LeavesOthers, Written, ReadsFrom};
-ghost use Rattle.vm_host.specs.Crash.{Passes, AddsNothing, AddsTorn, Only, Makes, ReadsNow};
+ghost use Rattle.vm_host.specs.Counts.{HasCause, SameCounts, RoseExactly};
+ghost use Rattle.vm_host.specs.Crash.{AddsTorn, Only, Makes, ReadsNow, SinceEarlier};
+ghost use Rattle.vm_host.specs.Files.{Written, ReadsFrom};
+ghost use Rattle.vm_host.specs.Leaves.{ReadsHost, WritesFile, LeavesHost};
+ghost use Rattle.vm_host.specs.Views.{HostView};
 
 use crate::Image;
 use std::alloc::{AllocError, AllocFailed, Global};
@@ -59,56 +61,28 @@ impl From<OutOfMemory> for HostFault {
 ///
 /// Each call, also one that fails, leaves all files but the one that it names. `Failed` comes only
 /// where `faults` rose, `Missing` only where `misses` rose, and neither count rises at another
-/// answer. `Memory` may be the answer of each call that has an answer.
+/// answer. The name of the call that answered `Failed` last is told, as `failed`. `Memory` may be
+/// the answer of each call that has an answer.
 pub trait Host {
     /// A file that is lent as a disk image.
     type Image: Image + Send + Drop;
 
-    /// Whether it tells its files. No call changes this.
-    ghost tells: { Self → Bool };
-
-    /// What the file of a name reads as, if there is one.
-    ghost file: { Self → List ℕ → Option (List ℕ) };
-
-    /// How often it has answered `Failed`. It stands still at 2^64 - 1.
-    ghost faults: { Self → ℕ };
-
-    /// How often it has answered `Missing`. It stands still at 2^64 - 1.
-    ghost misses: { Self → ℕ };
-
-    /// How many images came back with faults of their own. It stands still at 2^64 - 1.
-    ghost image_faults: { Self → ℕ };
-
-    /// The present moment, a number that never falls. Crashes are spoken of by the moment from
-    /// which on they come.
-    ghost moment: { Self → ℕ };
-
-    /// The moment at the end of a file's last successful `make`, or 0.
-    ghost made: { Self → List ℕ → ℕ };
-
-    /// `left h name t b`: a crash at some moment from t to now may have left these bytes in that
-    /// file.
-    ghost left: { Self → List ℕ → ℕ → List ℕ → Type 0 };
+    /// What clauses see of it: its files, its counts, the name of its last failure, and what
+    /// crashes may leave. The counts stand still at 2^64 - 1.
+    ghost seen: { Self → HostView };
 
     /// How many bytes a file has.
     ///
     /// `Missing` comes only where there is no such file. The file stays as it is, also after a
     /// fault.
     fn length(&mut self, name: &str) -> Result<u64, HostFault>
-        ensures told { tells self.new ≡ tells self.old }
-        ensures value { WhereTold (tells self.old)
-            (IfOk result (λ n. IsSomeAnd (file self.old name.now) (λ f. n ≡ length f))) }
-        ensures missing { WhereTold (tells self.old)
-            (IsErrOf result Missing → file self.old name.now ≡ None) }
-        ensures files { WhereTold (tells self.old) (file self.new ≡ file self.old) }
-        ensures cause { HasCause (faults self.old) (faults self.new)
-            (misses self.old) (misses self.new) result }
-        ensures image_faults { image_faults self.new ≡ image_faults self.old }
-        ensures crash { WhereTold (tells self.old) (AddsNothing (moment self.old) (moment self.new)
-            (left self.old) (left self.new)) }
-        ensures reads { WhereTold (tells self.old)
-            (ReadsNow (moment self.new) (left self.new) (file self.new)) }
-        ensures made { WhereTold (tells self.old) (made self.new ≡ made self.old) };
+        ensures value { WhereTold (seen self.old).tells
+            (IfOk result (λ n. IsSomeAnd ((seen self.old).file name.now) (λ f. n ≡ length f))) }
+        ensures missing { WhereTold (seen self.old).tells
+            (IsErrOf result Missing → (seen self.old).file name.now ≡ None) }
+        ensures cause { HasCause name.now (seen self.old) (seen self.new) result }
+        ensures leaves { ReadsHost (seen self.old) (seen self.new) }
+        ensures reads { WhereTold (seen self.old).tells (ReadsNow (seen self.new)) };
 
     /// Reads a file from byte `at` on into `into`, as pread(2) does, and answers how many bytes
     /// were read: as many as fit into `into` or stand there. So 0 comes only at or past the end, or
@@ -118,50 +92,37 @@ pub trait Host {
     /// fault.
     fn read_at(&mut self, name: &str, at: u64, into: &mut [u8]) -> Result<usize, HostFault>
         ensures within { IfOk result (λ n. n ≤ length into.old) }
-        ensures told { tells self.new ≡ tells self.old }
-        ensures value { WhereTold (tells self.old)
-            (IfOk result (λ n. IsSomeAnd (file self.old name.now) (λ f. ReadsFrom f at into.new n))) }
-        ensures missing { WhereTold (tells self.old)
-            (IsErrOf result Missing → file self.old name.now ≡ None) }
-        ensures files { WhereTold (tells self.old) (file self.new ≡ file self.old) }
-        ensures cause { HasCause (faults self.old) (faults self.new)
-            (misses self.old) (misses self.new) result }
-        ensures image_faults { image_faults self.new ≡ image_faults self.old }
-        ensures crash { WhereTold (tells self.old) (AddsNothing (moment self.old) (moment self.new)
-            (left self.old) (left self.new)) }
-        ensures reads { WhereTold (tells self.old)
-            (ReadsNow (moment self.new) (left self.new) (file self.new)) }
-        ensures made { WhereTold (tells self.old) (made self.new ≡ made self.old) };
+        ensures value { WhereTold (seen self.old).tells
+            (IfOk result (λ n. IsSomeAnd ((seen self.old).file name.now) (λ f. ReadsFrom f at into.new n))) }
+        ensures missing { WhereTold (seen self.old).tells
+            (IsErrOf result Missing → (seen self.old).file name.now ≡ None) }
+        ensures cause { HasCause name.now (seen self.old) (seen self.new) result }
+        ensures leaves { ReadsHost (seen self.old) (seen self.new) }
+        ensures reads { WhereTold (seen self.old).tells (ReadsNow (seen self.new)) };
 
     /// Makes a file anew: it is then there and empty, also in every crash from its `Ok` on, until
-    /// the next write. After a fault nothing is known of that file.
+    /// the next write.
+    ///
+    /// After a fault nothing is known of that file: a file system may fail after the old file is
+    /// gone.
     fn make(&mut self, alloc: Global, name: &str) -> Result<(), HostFault>
-        ensures told { tells self.new ≡ tells self.old }
-        ensures empty { WhereTold (tells self.old)
-            (OnOk result (file self.new name.now ≡ Some [])) }
-        ensures others { WhereTold (tells self.old)
-            (LeavesOthers name.now (file self.old) (file self.new)) }
-        ensures cause { HasCause (faults self.old) (faults self.new)
-            (misses self.old) (misses self.new) result }
+        ensures empty { WhereTold (seen self.old).tells
+            (OnOk result ((seen self.new).file name.now ≡ Some [])) }
+        ensures crash { WhereTold (seen self.old).tells
+            (OnOk result (Only [] ((seen self.new).left name.now (seen self.new).moment))) }
+        ensures made { WhereTold (seen self.old).tells
+            (Makes name.now (seen self.old) (seen self.new) result) }
+        ensures cause { HasCause name.now (seen self.old) (seen self.new) result }
         ensures not_missing { IsErrOf result Missing → ⊥ }
-        ensures image_faults { image_faults self.new ≡ image_faults self.old }
-        ensures time { WhereTold (tells self.old)
-            (Passes name.now (moment self.old) (moment self.new)
-            (left self.old) (left self.new)) }
-        ensures reads { WhereTold (tells self.old)
-            (ReadsNow (moment self.new) (left self.new) (file self.new)) }
-        ensures made { WhereTold (tells self.old)
-            (Makes name.now (moment self.old) (moment self.new)
-            (made self.old) (made self.new) result) }
-        ensures crash { WhereTold (tells self.old)
-            (OnOk result (Only [] (left self.new name.now (moment self.new)))) };
+        ensures leaves { WritesFile name.now (seen self.old) (seen self.new) }
+        ensures reads { WhereTold (seen self.old).tells (ReadsNow (seen self.new)) };
 
     /// Writes a piece over a file that stands, from byte `at` on, as pwrite(2) does. The file is
     /// longer afterwards where the piece ends past the old end; between an old end and a later `at`
     /// stand any bytes.
     ///
     /// After a fault the file still stands, and nothing else is known of its bytes than of a write
-    /// that a crash cut short.
+    /// that a crash cut short: a file system may fail when a part of the piece is written.
     fn write_at(
         &mut self,
         alloc: Global,
@@ -169,97 +130,68 @@ pub trait Host {
         at: u64,
         piece: &[u8],
     ) -> Result<(), HostFault>
-        requires { WhereTold (tells self.old) (IsSome (file self.old name.now)) }
-        ensures told { tells self.new ≡ tells self.old }
-        ensures written { WhereTold (tells self.old) (OnOk result
-            (Written (file self.old name.now) at piece.now (file self.new name.now))) }
-        ensures stands { WhereTold (tells self.old) (IsSome (file self.new name.now)) }
-        ensures others { WhereTold (tells self.old)
-            (LeavesOthers name.now (file self.old) (file self.new)) }
-        ensures cause { HasCause (faults self.old) (faults self.new)
-            (misses self.old) (misses self.new) result }
+        requires { WhereTold (seen self.old).tells (IsSome ((seen self.old).file name.now)) }
+        ensures written { WhereTold (seen self.old).tells (OnOk result
+            (Written ((seen self.old).file name.now) at piece.now ((seen self.new).file name.now))) }
+        ensures stands { WhereTold (seen self.old).tells (IsSome ((seen self.new).file name.now)) }
+        ensures crash { WhereTold (seen self.old).tells (AddsTorn at (length piece.now)
+            ((seen self.old).left name.now (seen self.old).moment) ((seen self.new).left name.now (seen self.old).moment)) }
+        ensures made { WhereTold (seen self.old).tells ((seen self.new).made ≡ (seen self.old).made) }
+        ensures cause { HasCause name.now (seen self.old) (seen self.new) result }
         ensures not_missing { IsErrOf result Missing → ⊥ }
-        ensures image_faults { image_faults self.new ≡ image_faults self.old }
-        ensures time { WhereTold (tells self.old)
-            (Passes name.now (moment self.old) (moment self.new)
-            (left self.old) (left self.new)) }
-        ensures reads { WhereTold (tells self.old)
-            (ReadsNow (moment self.new) (left self.new) (file self.new)) }
-        ensures made { WhereTold (tells self.old) (made self.new ≡ made self.old) }
-        ensures crash { WhereTold (tells self.old) (AddsTorn at (length piece.now)
-            (left self.old name.now (moment self.old)) (left self.new name.now (moment self.old))) };
+        ensures leaves { WritesFile name.now (seen self.old) (seen self.new) }
+        ensures reads { WhereTold (seen self.old).tells (ReadsNow (seen self.new)) };
 
     /// Makes sure that what was written lasts, as fsync(2) does: after `Ok` a crash leaves what a
     /// read gives.
     ///
     /// What the file reads as stays, also after a fault.
     fn sync(&mut self, name: &str) -> Result<(), HostFault>
-        requires { WhereTold (tells self.old) (IsSome (file self.old name.now)) }
-        ensures told { tells self.new ≡ tells self.old }
-        ensures files { WhereTold (tells self.old) (file self.new ≡ file self.old) }
-        ensures cause { HasCause (faults self.old) (faults self.new)
-            (misses self.old) (misses self.new) result }
+        requires { WhereTold (seen self.old).tells (IsSome ((seen self.old).file name.now)) }
+        ensures durable { WhereTold (seen self.old).tells (OnOk result
+            (IfSome ((seen self.old).file name.now) (λ f. Only f ((seen self.new).left name.now (seen self.new).moment)))) }
+        ensures cause { HasCause name.now (seen self.old) (seen self.new) result }
         ensures not_missing { IsErrOf result Missing → ⊥ }
-        ensures image_faults { image_faults self.new ≡ image_faults self.old }
-        ensures crash { WhereTold (tells self.old) (AddsNothing (moment self.old) (moment self.new)
-            (left self.old) (left self.new)) }
-        ensures reads { WhereTold (tells self.old)
-            (ReadsNow (moment self.new) (left self.new) (file self.new)) }
-        ensures made { WhereTold (tells self.old) (made self.new ≡ made self.old) }
-        ensures durable { WhereTold (tells self.old) (OnOk result
-            (IfSome (file self.old name.now) (λ f. Only f (left self.new name.now (moment self.new))))) };
+        ensures leaves { ReadsHost (seen self.old) (seen self.new) }
+        ensures reads { WhereTold (seen self.old).tells (ReadsNow (seen self.new)) };
 
     /// Lends a file that stands as an image, which reads as the file and whose counts are 0.
     ///
     /// Until it is closed the file stands, and nothing is known of its bytes. After a fault every
     /// file is as before.
     fn open_image(&mut self, alloc: Global, name: &str) -> Result<Self::Image, HostFault>
-        requires { WhereTold (tells self.old) (IsSome (file self.old name.now)) }
-        ensures told { tells self.new ≡ tells self.old }
-        ensures image_told { IfOk result (λ i. Self.Image.tells i ≡ tells self.old) }
-        ensures image { WhereTold (tells self.old)
-            (IfOk result (λ i. file self.old name.now ≡ Some (Self.Image.content i))) }
-        ensures fresh { IfOk result (λ i. (Self.Image.faults i ≡ 0) × (Self.Image.syncs i ≡ 0)) }
-        ensures stands { WhereTold (tells self.old)
-            (OnOk result (IsSome (file self.new name.now))) }
-        ensures refused { WhereTold (tells self.old)
-            (OnErr result (file self.new ≡ file self.old)) }
-        ensures others { WhereTold (tells self.old)
-            (LeavesOthers name.now (file self.old) (file self.new)) }
-        ensures cause { HasCause (faults self.old) (faults self.new)
-            (misses self.old) (misses self.new) result }
+        requires { WhereTold (seen self.old).tells (IsSome ((seen self.old).file name.now)) }
+        ensures image_told { IfOk result (λ i. (Self.Image.seen i).tells ≡ (seen self.old).tells) }
+        ensures image { WhereTold (seen self.old).tells
+            (IfOk result (λ i. (seen self.old).file name.now ≡ Some (Self.Image.seen i).content)) }
+        ensures fresh { IfOk result (λ i. ((Self.Image.seen i).faults ≡ 0) × ((Self.Image.seen i).syncs ≡ 0)) }
+        ensures stands { WhereTold (seen self.old).tells
+            (OnOk result (IsSome ((seen self.new).file name.now))) }
+        ensures refused { WhereTold (seen self.old).tells
+            (OnErr result ((seen self.new).file ≡ (seen self.old).file)) }
+        ensures made { WhereTold (seen self.old).tells ((seen self.new).made ≡ (seen self.old).made) }
+        ensures cause { HasCause name.now (seen self.old) (seen self.new) result }
         ensures not_missing { IsErrOf result Missing → ⊥ }
-        ensures image_faults { image_faults self.new ≡ image_faults self.old }
-        ensures time { WhereTold (tells self.old)
-            (Passes name.now (moment self.old) (moment self.new)
-            (left self.old) (left self.new)) }
-        ensures reads { WhereTold (tells self.old)
-            (ReadsNow (moment self.new) (left self.new) (file self.new)) }
-        ensures made { WhereTold (tells self.old) (made self.new ≡ made self.old) };
+        ensures leaves { WritesFile name.now (seen self.old) (seen self.new) }
+        ensures reads { WhereTold (seen self.old).tells (ReadsNow (seen self.new)) };
 
     /// Takes an image back. The file then reads as the image's content.
     ///
     /// `image_faults` rises exactly where the image has faults.
     fn close_image(&mut self, name: &str, image: Self::Image)
-        requires { WhereTold (tells self.old) (IsSome (file self.old name.now)) }
-        ensures told { tells self.new ≡ tells self.old }
-        ensures content { WhereTold (tells self.old) (WhereTold (Self.Image.tells image)
-            (file self.new name.now ≡ Some (Self.Image.content image))) }
-        ensures others { WhereTold (tells self.old)
-            (LeavesOthers name.now (file self.old) (file self.new)) }
-        ensures faults { faults self.new ≡ faults self.old }
-        ensures misses { misses self.new ≡ misses self.old }
-        ensures image_faults { RoseExactly (0 < Self.Image.faults image) (image_faults self.old) (image_faults self.new) }
-        ensures time { WhereTold (tells self.old)
-            (Passes name.now (moment self.old) (moment self.new)
-            (left self.old) (left self.new)) }
-        ensures reads { WhereTold (tells self.old)
-            (ReadsNow (moment self.new) (left self.new) (file self.new)) }
-        ensures made { WhereTold (tells self.old) (made self.new ≡ made self.old) };
+        requires { WhereTold (seen self.old).tells (IsSome ((seen self.old).file name.now)) }
+        ensures content { WhereTold (seen self.old).tells (WhereTold (Self.Image.seen image).tells
+            ((seen self.new).file name.now ≡ Some (Self.Image.seen image).content)) }
+        ensures image_faults { RoseExactly (0 < (Self.Image.seen image).faults)
+            (seen self.old).image_faults (seen self.new).image_faults }
+        ensures made { WhereTold (seen self.old).tells ((seen self.new).made ≡ (seen self.old).made) }
+        ensures counts { SameCounts (seen self.old) (seen self.new) }
+        ensures leaves { LeavesHost (λ q. q ≡ name.now) (seen self.old) (seen self.new) }
+        ensures reads { WhereTold (seen self.old).tells (ReadsNow (seen self.new)) };
 
     /// A file was made at a moment that has passed.
-    ghost made_before: { (host : Self) (q : List ℕ) → tells host ≡ true → made host q ≤ moment host };
+    ghost made_before: { (host : Self) (q : List ℕ) → (seen host).tells ≡ true → (seen host).made q ≤ (seen host).moment };
 
     /// A crash from a later moment on is one from an earlier moment on.
-    ghost since_earlier: { (host : Self) (q : List ℕ) (t u : ℕ) (b : List ℕ) → tells host ≡ true → t ≤ u → left host q u b → left host q t b };
+    ghost since_earlier: { (host : Self) → (seen host).tells ≡ true → SinceEarlier (seen host).left };
 }

@@ -1,8 +1,10 @@
 //! A disk image: a byte list that is written in sectors of 512 bytes.
-ghost use Rattle.std.specs.Prelude.{◌≡◌, ◌*◌, ◌+◌, ◌≤◌, Bool, List, ℕ, length, OnOk};
+ghost use Rattle.std.specs.Prelude.{◌*◌, ◌+◌, ◌≤◌, length, OnOk};
 ghost use Rattle.vm_host.specs.Told.{WhereTold};
 ghost use Rattle.vm_host.specs.Counts.{Counted, RoseOnOk};
-ghost use Rattle.vm_host.specs.Files.{Holds, SameOutside};
+ghost use Rattle.vm_host.specs.Files.{Holds};
+ghost use Rattle.vm_host.specs.Leaves.{WritesSector, LeavesImage};
+ghost use Rattle.vm_host.specs.Views.{ImageView};
 
 use thiserror::Error;
 
@@ -11,40 +13,28 @@ use thiserror::Error;
 #[error("the disk image failed")]
 pub struct ImageFault;
 
-/// A disk image that a host handed out.
+/// A disk image that a host handed out: whole sectors of 512 bytes.
 pub trait Image {
-    /// Whether it tells its bytes. No call changes this.
-    ghost tells: { Self → Bool };
-
-    /// Its bytes.
-    ghost content: { Self → List ℕ };
-
-    /// How often it has answered a fault. It stands still at 2^64 - 1.
-    ghost faults: { Self → ℕ };
-
-    /// How many syncs have succeeded. It stands still at 2^64 - 1.
-    ghost syncs: { Self → ℕ };
+    /// What clauses see of it: whether it tells its bytes, which no call changes, the bytes, and the
+    /// counts of faults and syncs, which stand still at 2^64 - 1.
+    ghost seen: { Self → ImageView };
 
     /// Replaces one sector, counted from 0, which must be inside where the bytes are told.
     ///
     /// After `ImageFault`, which raises `faults`, that sector may hold any bytes. All others stay
     /// in either case.
     fn write_at(&mut self, sector: u64, bytes: &[u8; 512]) -> Result<(), ImageFault>
-        requires { WhereTold (tells self.old) (512 * sector + 512 ≤ length (content self.old)) }
-        ensures told { tells self.new ≡ tells self.old }
-        ensures written { WhereTold (tells self.old)
-            (OnOk result (Holds (content self.old) (512 * sector) bytes.now (content self.new))) }
-        ensures others { WhereTold (tells self.old)
-            (SameOutside (512 * sector) 512 (content self.old) (content self.new)) }
-        ensures cause { Counted (faults self.old) (faults self.new) result }
-        ensures syncs { syncs self.new ≡ syncs self.old };
+        requires { WhereTold (seen self.old).tells (512 * sector + 512 ≤ length (seen self.old).content) }
+        ensures written { WhereTold (seen self.old).tells
+            (OnOk result (Holds (seen self.old).content (512 * sector) bytes.now (seen self.new).content)) }
+        ensures leaves { WritesSector sector (seen self.old) (seen self.new) }
+        ensures cause { Counted (seen self.old).faults (seen self.new).faults result };
 
     /// Makes sure that what was written lasts, and changes no byte.
     ///
     /// It raises `syncs` where it succeeds, and `faults` where it answers `ImageFault`.
     fn sync(&mut self) -> Result<(), ImageFault>
-        ensures told { tells self.new ≡ tells self.old }
-        ensures content { WhereTold (tells self.old) (content self.new ≡ content self.old) }
-        ensures cause { Counted (faults self.old) (faults self.new) result }
-        ensures syncs { RoseOnOk (syncs self.old) (syncs self.new) result };
+        ensures leaves { LeavesImage (seen self.old) (seen self.new) }
+        ensures cause { Counted (seen self.old).faults (seen self.new).faults result }
+        ensures syncs { RoseOnOk (seen self.old).syncs (seen self.new).syncs result };
 }

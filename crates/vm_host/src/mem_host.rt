@@ -1,15 +1,17 @@
 //! Files in memory. Each change is kept, the newest first, with what its file reads as after it.
 ghost use Rattle.std.specs.Prelude.{◌≡◌, ◌<◌, ◌≤◌, ℕ, [], ◌∷◌, ◌++◌, List, length, true, false, Option, Some, None, Result, Ok, Err, OnOk, OnErr, IfOk, IsOk, IsSome, IsSomeAnd, IfSome, option_map, MatchOption, slice_index_or, slice_set, if◌then◌else◌, IsErrOf};
 ghost use Rattle.vm_host.specs.Told.{WhereTold};
-ghost use Rattle.vm_host.specs.Counts.{HasCause, RoseExactly};
+ghost use Rattle.vm_host.specs.Counts.{HasCause, SameCounts, RoseExactly};
 ghost use Rattle.vm_host.specs.Files.{LeavesOthers, ReadsFrom, Written};
-ghost use Rattle.vm_host.specs.Crash.{ReadsNow, AddsNothing, AddsTorn, Passes, Makes, Only};
+ghost use Rattle.vm_host.specs.Crash.{ReadsNow, AddsTorn, Makes, Only};
+ghost use Rattle.vm_host.specs.Leaves.{ReadsHost, WritesFile, LeavesHost};
 ghost use Rattle.vm_host.specs.Past.{Change, file_of, Reads, LeftSince, made_at, given_back};
 ghost use Rattle.vm_host.specs.Kinds.{lent_of};
-ghost use Rattle.vm_host.specs.MemState.{IsListed, is_listed, IsNumbered, FailsWhereListed, FailsOnlyListed, after_call, no_calls, one_more, calls_of, calls_of_others};
+ghost use Rattle.vm_host.specs.MemState.{host_view, IsListed, is_listed, IsNumbered, FailsWhereListed, FailsOnlyListed, after_call, failed_after, no_calls, one_more, calls_of, calls_of_others};
 
 use crate::calls::Calls;
 use crate::event::{Event, Kind};
+use crate::failed_name::FailedName;
 use crate::host::{Host, HostFault};
 use crate::image_calls::{ImageCall, listed_for, take_off};
 use crate::mem_image::MemImage;
@@ -21,7 +23,8 @@ use vm_law::OutOfMemory;
 /// Files in memory. It tells its files.
 ///
 /// Its calls of [`Host`] that answer a `Result` are numbered from 0. One that is listed answers
-/// `Failed` whatever else it would answer and changes no file; no other call answers that.
+/// `Failed` whatever else it would answer, keeps its name and changes no file; no other call
+/// answers that.
 #[derive(Drop)]
 pub struct MemHost {
     alloc: Global,
@@ -29,6 +32,7 @@ pub struct MemHost {
     calls: Calls,
     failing_images: Vec<ImageCall>,
     misses: u64,
+    failed: FailedName,
     image_faults: u64,
 }
 
@@ -38,7 +42,7 @@ impl Model for MemHost {
 
     ghost Value = { HostState };
 
-    ghost view = { λ m. record { past = m.past.items; calls = m.calls; failing_images = m.failing_images.items; misses = m.misses; image_faults = m.image_faults } };
+    ghost view = { λ m. record { past = m.past.items; calls = m.calls; failing_images = m.failing_images.items; misses = m.misses; failed = m.failed; image_faults = m.image_faults } };
 
     ghost invariant = { λ m. Reads m.past.items };
 }
@@ -47,7 +51,7 @@ impl MemHost {
     /// A host without files, whose next call is number 0 and whose counts are 0. It keeps the
     /// allocator.
     pub fn new(alloc: Global) -> MemHost
-        ensures { result ≡ record { past = []; calls = no_calls []; failing_images = []; misses = 0; image_faults = 0 } }
+        ensures { result ≡ record { past = []; calls = no_calls []; failing_images = []; misses = 0; failed = []; image_faults = 0 } }
     {
         MemHost {
             alloc,
@@ -55,6 +59,7 @@ impl MemHost {
             calls: Calls::new(alloc),
             failing_images: Vec::new(alloc),
             misses: 0,
+            failed: FailedName::new(),
             image_faults: 0,
         }
     }
@@ -66,7 +71,7 @@ impl MemHost {
     pub fn put(&mut self, alloc: Global, name: &str, bytes: &[u8]) -> Result<(), OutOfMemory>
         ensures put { OnOk result (file_of self.new.past name.now ≡ Some bytes.now) }
         ensures durable { OnOk result (Only bytes.now (LeftSince self.new.past name.now (length self.new.past))) }
-        ensures others { LeavesOthers name.now (file_of self.old.past) (file_of self.new.past) }
+        ensures others { LeavesOthers (λ q. q ≡ name.now) (file_of self.old.past) (file_of self.new.past) }
         ensures made { made_at self.new.past ≡ made_at self.old.past }
         ensures rest { self.new ≡ record self.old { past = self.new.past } }
         ensures err { OnErr result (self.new ≡ self.old) }
@@ -111,20 +116,36 @@ impl MemHost {
         None
     }
 
-    /// Takes the number of a call, and counts a fault where it is listed.
-    #[tactic(auto, using(crate::proofs::Pasts::reads_now))]
-    fn call_fails(&mut self) -> bool
-        ensures listed { result ≡ is_listed self.old.calls }
-        ensures after { self.new ≡ record self.old { calls = after_call result self.old.calls } }
-        ensures reads { ReadsNow (length self.new.past) (LeftSince self.new.past) (file_of self.new.past) }
+    /// The name, cut off at 4,096 bytes, that the last call that answered `Failed` was about. None
+    /// has, where it is empty.
+    pub fn failed(&self) -> &[u8]
+        ensures { result.now ≡ self.now.failed }
     {
-        self.calls.next_fails()
+        self.failed.as_bytes()
+    }
+
+    /// Takes the number of a call on this name. Where it is listed it counts a fault and keeps the
+    /// name.
+    #[tactic(auto, using(crate::proofs::Pasts::reads_now))]
+    fn call_fails(&mut self, name: &str) -> bool
+        ensures listed { result ≡ is_listed self.old.calls }
+        ensures after { self.new ≡ record self.old {
+          calls = after_call result self.old.calls;
+          failed = failed_after result name.now self.old.failed;
+        } }
+        ensures reads { ReadsNow (host_view self.new) }
+    {
+        let fails = self.calls.next_fails();
+        if fails {
+            self.failed.set(name);
+        }
+        fails
     }
 
     /// Counts a file that is missing.
     #[tactic(auto, using(crate::proofs::Pasts::reads_now))]
     fn miss(&mut self)
-        ensures reads { ReadsNow (length self.new.past) (LeftSince self.new.past) (file_of self.new.past) }
+        ensures reads { ReadsNow (host_view self.new) }
         ensures after { self.new ≡ record self.old { misses = one_more self.old.misses } }
     {
         self.misses = self.misses.saturating_add(1);
@@ -145,7 +166,7 @@ impl MemHost {
     fn give_back(&mut self, name: &str, bytes: Vec<u8>)
         requires { IsSome (file_of self.old.past name.now) }
         ensures after { self.new ≡ record self.old { past = given_back self.old.past name.now bytes.items } }
-        ensures reads { ReadsNow (length self.new.past) (LeftSince self.new.past) (file_of self.new.past) }
+        ensures reads { ReadsNow (host_view self.new) }
     {
         if let Some(place) = place_of(&self.past, name) {
             let event = &mut self.past[place];
@@ -162,7 +183,7 @@ impl MemHost {
           past = record { name = name.now; bytes = bytes.items; kind = kind } ∷ self.old.past;
         }) }
         ensures err { OnErr result (self.new ≡ self.old) }
-        ensures reads { ReadsNow (length self.new.past) (LeftSince self.new.past) (file_of self.new.past) }
+        ensures reads { ReadsNow (host_view self.new) }
     {
         let name = String::from_str(self.alloc, name)?;
         self.past.insert(0, Event::new(name, bytes, kind))?;
@@ -173,7 +194,7 @@ impl MemHost {
     #[tactic(auto, using(crate::proofs::Pasts::reads_now))]
     fn take_off_image(&mut self, name: &str)
         ensures after { self.new ≡ record self.old { failing_images = calls_of_others self.old.failing_images name.now } }
-        ensures reads { ReadsNow (length self.new.past) (LeftSince self.new.past) (file_of self.new.past) }
+        ensures reads { ReadsNow (host_view self.new) }
     {
         take_off(&mut self.failing_images, name);
     }
@@ -184,49 +205,29 @@ impl Host for MemHost {
 
     ghost use Rattle.vm_host.specs.PastLaws.{made_at-le, since_earlier};
 
-    ghost tells = { λ _. true };
-
-    ghost file = { λ m. file_of m.past };
-
-    ghost faults = { λ m. m.calls.faults };
-
-    ghost misses = { λ m. m.misses };
-
-    ghost image_faults = { λ m. m.image_faults };
-
-    ghost moment = { λ m. length m.past };
-
-    ghost made = { λ m. made_at m.past };
-
-    ghost left = { λ m. LeftSince m.past };
+    ghost seen = { host_view };
 
     ghost made_before = { λ m q _. made_at-le m.past q };
 
-    ghost since_earlier = { λ m q t u b _ le h. since_earlier m.past q t u b le h };
+    ghost since_earlier = { λ m _. since_earlier m.past };
 
     fn length(&mut self, name: &str) -> Result<u64, HostFault>
-        ensures listed { FailsWhereListed self.old self.new result }
+        ensures listed { FailsWhereListed name.now self.old self.new result }
         ensures unlisted { FailsOnlyListed self.old result }
         ensures numbered { IsNumbered self.old self.new }
         ensures other_calls { self.new.failing_images ≡ self.old.failing_images }
+        ensures kept { self.new.past ≡ self.old.past }
         ensures answer { (IsListed self.old.calls → ⊥) → MatchOption (file_of self.old.past name.now)
             (result ≡ Err HostFault.Missing) (λ f. result ≡ Ok (length f)) }
-        ensures told { true ≡ true }
         ensures value { WhereTold true
             (IfOk result (λ n. IsSomeAnd (file_of self.old.past name.now) (λ f. n ≡ length f))) }
         ensures missing { WhereTold true
             (IsErrOf result HostFault.Missing → file_of self.old.past name.now ≡ None) }
-        ensures files { WhereTold true (file_of self.new.past ≡ file_of self.old.past) }
-        ensures cause { HasCause self.old.calls.faults self.new.calls.faults
-            self.old.misses self.new.misses result }
-        ensures image_faults { self.new.image_faults ≡ self.old.image_faults }
-        ensures crash { WhereTold true (AddsNothing (length self.old.past) (length self.new.past)
-            (LeftSince self.old.past) (LeftSince self.new.past)) }
-        ensures reads { WhereTold true
-            (ReadsNow (length self.new.past) (LeftSince self.new.past) (file_of self.new.past)) }
-        ensures made { WhereTold true (made_at self.new.past ≡ made_at self.old.past) }
+        ensures cause { HasCause name.now (host_view self.old) (host_view self.new) result }
+        ensures leaves { ReadsHost (host_view self.old) (host_view self.new) }
+        ensures reads { WhereTold true (ReadsNow (host_view self.new)) }
     {
-        if self.call_fails() {
+        if self.call_fails(name) {
             return Err(HostFault::Failed);
         }
         let Some(bytes) = self.file(name) else {
@@ -237,29 +238,23 @@ impl Host for MemHost {
     }
 
     fn read_at(&mut self, name: &str, at: u64, into: &mut [u8]) -> Result<usize, HostFault>
-        ensures listed { FailsWhereListed self.old self.new result }
+        ensures listed { FailsWhereListed name.now self.old self.new result }
         ensures unlisted { FailsOnlyListed self.old result }
         ensures numbered { IsNumbered self.old self.new }
         ensures other_calls { self.new.failing_images ≡ self.old.failing_images }
+        ensures kept { self.new.past ≡ self.old.past }
         ensures answer { (IsListed self.old.calls → ⊥) → MatchOption (file_of self.old.past name.now)
             (result ≡ Err HostFault.Missing) (λ f. IsOk result) }
         ensures within { IfOk result (λ n. n ≤ length into.old) }
-        ensures told { true ≡ true }
         ensures value { WhereTold true
             (IfOk result (λ n. IsSomeAnd (file_of self.old.past name.now) (λ f. ReadsFrom f at into.new n))) }
         ensures missing { WhereTold true
             (IsErrOf result HostFault.Missing → file_of self.old.past name.now ≡ None) }
-        ensures files { WhereTold true (file_of self.new.past ≡ file_of self.old.past) }
-        ensures cause { HasCause self.old.calls.faults self.new.calls.faults
-            self.old.misses self.new.misses result }
-        ensures image_faults { self.new.image_faults ≡ self.old.image_faults }
-        ensures crash { WhereTold true (AddsNothing (length self.old.past) (length self.new.past)
-            (LeftSince self.old.past) (LeftSince self.new.past)) }
-        ensures reads { WhereTold true
-            (ReadsNow (length self.new.past) (LeftSince self.new.past) (file_of self.new.past)) }
-        ensures made { WhereTold true (made_at self.new.past ≡ made_at self.old.past) }
+        ensures cause { HasCause name.now (host_view self.old) (host_view self.new) result }
+        ensures leaves { ReadsHost (host_view self.old) (host_view self.new) }
+        ensures reads { WhereTold true (ReadsNow (host_view self.new)) }
     {
-        if self.call_fails() {
+        if self.call_fails(name) {
             return Err(HostFault::Failed);
         }
         let Some(bytes) = self.file(name) else {
@@ -270,28 +265,22 @@ impl Host for MemHost {
     }
 
     fn make(&mut self, _alloc: Global, name: &str) -> Result<(), HostFault>
-        ensures listed { FailsWhereListed self.old self.new result }
+        ensures listed { FailsWhereListed name.now self.old self.new result }
         ensures unlisted { FailsOnlyListed self.old result }
         ensures numbered { IsNumbered self.old self.new }
         ensures other_calls { self.new.failing_images ≡ self.old.failing_images }
-        ensures told { true ≡ true }
+        ensures refused { OnErr result (self.new.past ≡ self.old.past) }
         ensures empty { WhereTold true (OnOk result (file_of self.new.past name.now ≡ Some [])) }
-        ensures others { WhereTold true
-            (LeavesOthers name.now (file_of self.old.past) (file_of self.new.past)) }
-        ensures cause { HasCause self.old.calls.faults self.new.calls.faults
-            self.old.misses self.new.misses result }
-        ensures not_missing { IsErrOf result HostFault.Missing → ⊥ }
-        ensures image_faults { self.new.image_faults ≡ self.old.image_faults }
-        ensures time { WhereTold true (Passes name.now (length self.old.past) (length self.new.past)
-            (LeftSince self.old.past) (LeftSince self.new.past)) }
-        ensures reads { WhereTold true
-            (ReadsNow (length self.new.past) (LeftSince self.new.past) (file_of self.new.past)) }
-        ensures made { WhereTold true (Makes name.now (length self.old.past) (length self.new.past)
-            (made_at self.old.past) (made_at self.new.past) result) }
         ensures crash { WhereTold true
             (OnOk result (Only [] (LeftSince self.new.past name.now (length self.new.past)))) }
+        ensures made { WhereTold true
+            (Makes name.now (host_view self.old) (host_view self.new) result) }
+        ensures cause { HasCause name.now (host_view self.old) (host_view self.new) result }
+        ensures not_missing { IsErrOf result HostFault.Missing → ⊥ }
+        ensures leaves { WritesFile name.now (host_view self.old) (host_view self.new) }
+        ensures reads { WhereTold true (ReadsNow (host_view self.new)) }
     {
-        if self.call_fails() {
+        if self.call_fails(name) {
             return Err(HostFault::Failed);
         }
         self.remember(name, Vec::new(self.alloc), Kind::Made)?;
@@ -306,30 +295,24 @@ impl Host for MemHost {
         piece: &[u8],
     ) -> Result<(), HostFault>
         requires { WhereTold true (IsSome (file_of self.old.past name.now)) }
-        ensures listed { FailsWhereListed self.old self.new result }
+        ensures listed { FailsWhereListed name.now self.old self.new result }
         ensures unlisted { FailsOnlyListed self.old result }
         ensures numbered { IsNumbered self.old self.new }
         ensures other_calls { self.new.failing_images ≡ self.old.failing_images }
-        ensures told { true ≡ true }
+        ensures refused { OnErr result (self.new.past ≡ self.old.past) }
         ensures written { WhereTold true (OnOk result
             (Written (file_of self.old.past name.now) at piece.now (file_of self.new.past name.now))) }
         ensures stands { WhereTold true (IsSome (file_of self.new.past name.now)) }
-        ensures others { WhereTold true
-            (LeavesOthers name.now (file_of self.old.past) (file_of self.new.past)) }
-        ensures cause { HasCause self.old.calls.faults self.new.calls.faults
-            self.old.misses self.new.misses result }
-        ensures not_missing { IsErrOf result HostFault.Missing → ⊥ }
-        ensures image_faults { self.new.image_faults ≡ self.old.image_faults }
-        ensures time { WhereTold true (Passes name.now (length self.old.past) (length self.new.past)
-            (LeftSince self.old.past) (LeftSince self.new.past)) }
-        ensures reads { WhereTold true
-            (ReadsNow (length self.new.past) (LeftSince self.new.past) (file_of self.new.past)) }
-        ensures made { WhereTold true (made_at self.new.past ≡ made_at self.old.past) }
         ensures crash { WhereTold true (AddsTorn at (length piece.now)
             (LeftSince self.old.past name.now (length self.old.past))
             (LeftSince self.new.past name.now (length self.old.past))) }
+        ensures made { WhereTold true (made_at self.new.past ≡ made_at self.old.past) }
+        ensures cause { HasCause name.now (host_view self.old) (host_view self.new) result }
+        ensures not_missing { IsErrOf result HostFault.Missing → ⊥ }
+        ensures leaves { WritesFile name.now (host_view self.old) (host_view self.new) }
+        ensures reads { WhereTold true (ReadsNow (host_view self.new)) }
     {
-        if self.call_fails() {
+        if self.call_fails(name) {
             return Err(HostFault::Failed);
         }
         let Some(bytes) = self.file(name) else {
@@ -343,25 +326,19 @@ impl Host for MemHost {
 
     fn sync(&mut self, name: &str) -> Result<(), HostFault>
         requires { WhereTold true (IsSome (file_of self.old.past name.now)) }
-        ensures listed { FailsWhereListed self.old self.new result }
+        ensures listed { FailsWhereListed name.now self.old self.new result }
         ensures unlisted { FailsOnlyListed self.old result }
         ensures numbered { IsNumbered self.old self.new }
         ensures other_calls { self.new.failing_images ≡ self.old.failing_images }
-        ensures told { true ≡ true }
-        ensures files { WhereTold true (file_of self.new.past ≡ file_of self.old.past) }
-        ensures cause { HasCause self.old.calls.faults self.new.calls.faults
-            self.old.misses self.new.misses result }
-        ensures not_missing { IsErrOf result HostFault.Missing → ⊥ }
-        ensures image_faults { self.new.image_faults ≡ self.old.image_faults }
-        ensures crash { WhereTold true (AddsNothing (length self.old.past) (length self.new.past)
-            (LeftSince self.old.past) (LeftSince self.new.past)) }
-        ensures reads { WhereTold true
-            (ReadsNow (length self.new.past) (LeftSince self.new.past) (file_of self.new.past)) }
-        ensures made { WhereTold true (made_at self.new.past ≡ made_at self.old.past) }
+        ensures refused { OnErr result (self.new.past ≡ self.old.past) }
         ensures durable { WhereTold true (OnOk result
             (IfSome (file_of self.old.past name.now) (λ f. Only f (LeftSince self.new.past name.now (length self.new.past))))) }
+        ensures cause { HasCause name.now (host_view self.old) (host_view self.new) result }
+        ensures not_missing { IsErrOf result HostFault.Missing → ⊥ }
+        ensures leaves { ReadsHost (host_view self.old) (host_view self.new) }
+        ensures reads { WhereTold true (ReadsNow (host_view self.new)) }
     {
-        if self.call_fails() {
+        if self.call_fails(name) {
             return Err(HostFault::Failed);
         }
         let Some(bytes) = self.file(name) else {
@@ -374,12 +351,12 @@ impl Host for MemHost {
 
     fn open_image(&mut self, alloc: Global, name: &str) -> Result<MemImage, HostFault>
         requires { WhereTold true (IsSome (file_of self.old.past name.now)) }
-        ensures listed { FailsWhereListed self.old self.new result }
+        ensures listed { FailsWhereListed name.now self.old self.new result }
         ensures unlisted { FailsOnlyListed self.old result }
         ensures numbered { IsNumbered self.old self.new }
         ensures image_calls { IfOk result (λ i. i.calls ≡ no_calls (calls_of self.old.failing_images name.now)) }
         ensures taken_off { OnOk result (self.new.failing_images ≡ calls_of_others self.old.failing_images name.now) }
-        ensures told { true ≡ true }
+        ensures kept { OnErr result (self.new.past ≡ self.old.past) }
         ensures image_told { IfOk result (λ i. true ≡ true) }
         ensures image { WhereTold true
             (IfOk result (λ i. file_of self.old.past name.now ≡ Some i.bytes)) }
@@ -387,19 +364,13 @@ impl Host for MemHost {
         ensures stands { WhereTold true (OnOk result (IsSome (file_of self.new.past name.now))) }
         ensures refused { WhereTold true
             (OnErr result (file_of self.new.past ≡ file_of self.old.past)) }
-        ensures others { WhereTold true
-            (LeavesOthers name.now (file_of self.old.past) (file_of self.new.past)) }
-        ensures cause { HasCause self.old.calls.faults self.new.calls.faults
-            self.old.misses self.new.misses result }
-        ensures not_missing { IsErrOf result HostFault.Missing → ⊥ }
-        ensures image_faults { self.new.image_faults ≡ self.old.image_faults }
-        ensures time { WhereTold true (Passes name.now (length self.old.past) (length self.new.past)
-            (LeftSince self.old.past) (LeftSince self.new.past)) }
-        ensures reads { WhereTold true
-            (ReadsNow (length self.new.past) (LeftSince self.new.past) (file_of self.new.past)) }
         ensures made { WhereTold true (made_at self.new.past ≡ made_at self.old.past) }
+        ensures cause { HasCause name.now (host_view self.old) (host_view self.new) result }
+        ensures not_missing { IsErrOf result HostFault.Missing → ⊥ }
+        ensures leaves { WritesFile name.now (host_view self.old) (host_view self.new) }
+        ensures reads { WhereTold true (ReadsNow (host_view self.new)) }
     {
-        if self.call_fails() {
+        if self.call_fails(name) {
             return Err(HostFault::Failed);
         }
         let Some(bytes) = self.file(name) else {
@@ -417,19 +388,13 @@ impl Host for MemHost {
         requires { WhereTold true (IsSome (file_of self.old.past name.now)) }
         ensures calls { self.new.calls ≡ self.old.calls }
         ensures other_calls { self.new.failing_images ≡ self.old.failing_images }
-        ensures told { true ≡ true }
         ensures content { WhereTold true
             (WhereTold true (file_of self.new.past name.now ≡ Some image.bytes)) }
-        ensures others { WhereTold true
-            (LeavesOthers name.now (file_of self.old.past) (file_of self.new.past)) }
-        ensures faults { self.new.calls.faults ≡ self.old.calls.faults }
-        ensures misses { self.new.misses ≡ self.old.misses }
         ensures image_faults { RoseExactly (0 < image.calls.faults) self.old.image_faults self.new.image_faults }
-        ensures time { WhereTold true (Passes name.now (length self.old.past) (length self.new.past)
-            (LeftSince self.old.past) (LeftSince self.new.past)) }
-        ensures reads { WhereTold true
-            (ReadsNow (length self.new.past) (LeftSince self.new.past) (file_of self.new.past)) }
         ensures made { WhereTold true (made_at self.new.past ≡ made_at self.old.past) }
+        ensures counts { SameCounts (host_view self.old) (host_view self.new) }
+        ensures leaves { LeavesHost (λ q. q ≡ name.now) (host_view self.old) (host_view self.new) }
+        ensures reads { WhereTold true (ReadsNow (host_view self.new)) }
     {
         self.count_image(image.has_failed());
         self.give_back(name, image.into_bytes());

@@ -2,8 +2,9 @@
 ghost use Rattle.std.specs.Prelude.{◌≡◌, ◌*◌, ◌+◌, ◌≤◌, ◌<◌, ◌↔◌, length, true, IsErr, OnOk, OnErr, IsTrue, if◌then◌else◌};
 ghost use Rattle.vm_host.specs.Told.{WhereTold};
 ghost use Rattle.vm_host.specs.Counts.{Counted, RoseOnOk};
-ghost use Rattle.vm_host.specs.Files.{Holds, SameOutside};
-ghost use Rattle.vm_host.specs.MemState.{IsListed, is_listed, after_call, no_calls, one_more};
+ghost use Rattle.vm_host.specs.Files.{Holds};
+ghost use Rattle.vm_host.specs.Leaves.{WritesSector, LeavesImage};
+ghost use Rattle.vm_host.specs.MemState.{image_view, IsListed, is_listed, after_call, no_calls, one_more};
 
 use crate::calls::Calls;
 use crate::image::{Image, ImageFault};
@@ -73,13 +74,7 @@ fn put_sector(bytes: &mut Vec<u8>, at: usize, sector: &[u8; 512])
 }
 
 impl Image for MemImage {
-    ghost tells = { λ _. true };
-
-    ghost content = { λ i. i.bytes };
-
-    ghost faults = { λ i. i.calls.faults };
-
-    ghost syncs = { λ i. i.syncs };
+    ghost seen = { image_view };
 
     #[tactic(auto, using(crate::proofs::Sectors::holds_same))]
     fn write_at(&mut self, sector: u64, bytes: &[u8; 512]) -> Result<(), ImageFault>
@@ -88,13 +83,10 @@ impl Image for MemImage {
             → IsErr result × (self.new ≡ record self.old { calls = after_call true self.old.calls }) }
         ensures unlisted { OnErr result (IsListed self.old.calls) }
         ensures numbered { self.new.calls ≡ after_call (is_listed self.old.calls) self.old.calls }
-        ensures told { true ≡ true }
         ensures written { WhereTold true
             (OnOk result (Holds self.old.bytes (512 * sector) bytes.now self.new.bytes)) }
-        ensures others { WhereTold true
-            (SameOutside (512 * sector) 512 self.old.bytes self.new.bytes) }
+        ensures leaves { WritesSector sector (image_view self.old) (image_view self.new) }
         ensures cause { Counted self.old.calls.faults self.new.calls.faults result }
-        ensures syncs { self.new.syncs ≡ self.old.syncs }
     {
         if self.call_fails() {
             return Err(ImageFault);
@@ -108,8 +100,7 @@ impl Image for MemImage {
             → IsErr result × (self.new ≡ record self.old { calls = after_call true self.old.calls }) }
         ensures unlisted { OnErr result (IsListed self.old.calls) }
         ensures numbered { self.new.calls ≡ after_call (is_listed self.old.calls) self.old.calls }
-        ensures told { true ≡ true }
-        ensures content { WhereTold true (self.new.bytes ≡ self.old.bytes) }
+        ensures leaves { LeavesImage (image_view self.old) (image_view self.new) }
         ensures cause { Counted self.old.calls.faults self.new.calls.faults result }
         ensures syncs { RoseOnOk self.old.syncs self.new.syncs result }
     {

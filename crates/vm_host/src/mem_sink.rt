@@ -1,8 +1,8 @@
 //! A sink in memory.
 ghost use Rattle.std.specs.Prelude.{◌≡◌, ◌<◌, ◌≤◌, [], ◌∷◌, ◌++◌, length, take, true, IsErr, OnOk, OnErr, IfOk, MatchResult};
-ghost use Rattle.vm_host.specs.Told.{WhereTold};
 ghost use Rattle.vm_host.specs.Counts.{Counted};
-ghost use Rattle.vm_host.specs.MemState.{IsListed, is_listed, after_call, no_calls, one_more};
+ghost use Rattle.vm_host.specs.Leaves.{Takes, LeavesSink};
+ghost use Rattle.vm_host.specs.MemState.{sink_view, IsListed, is_listed, after_call, no_calls, one_more};
 
 use crate::calls::Calls;
 use crate::sink::{Sink, SinkFault};
@@ -67,11 +67,7 @@ impl MemSink {
 }
 
 impl Sink for MemSink {
-    ghost tells = { λ _. true };
-
-    ghost taken = { λ s. s.bytes };
-
-    ghost faults = { λ s. s.calls.faults };
+    ghost seen = { sink_view };
 
     fn write(&mut self, piece: &[u8]) -> Result<usize, SinkFault>
         ensures listed { IsListed self.old.calls
@@ -83,10 +79,8 @@ impl Sink for MemSink {
         ensures whole { IfOk result (λ n. n ≡ length piece.now) }
         ensures within { IfOk result (λ n. n ≤ length piece.now) }
         ensures some { 0 < length piece.now → IfOk result (λ n. 0 < n) }
-        ensures told { true ≡ true }
-        ensures taken { WhereTold true (MatchResult result
-            (λ n. self.new.bytes ≡ self.old.bytes ++ take n piece.now)
-            (λ _. self.new.bytes ≡ self.old.bytes)) }
+        ensures takes { IfOk result (λ n. Takes (take n piece.now) (sink_view self.old) (sink_view self.new)) }
+        ensures refused { OnErr result (LeavesSink (sink_view self.old) (sink_view self.new)) }
         ensures cause { Counted self.old.calls.faults self.new.calls.faults result }
     {
         if self.call_fails() {

@@ -1,7 +1,8 @@
 //! A sink of bytes, such as a console or a report.
-ghost use Rattle.std.specs.Prelude.{◌≡◌, ◌<◌, ◌≤◌, ◌++◌, Bool, List, ℕ, length, take, IfOk, MatchResult};
-ghost use Rattle.vm_host.specs.Told.{WhereTold};
+ghost use Rattle.std.specs.Prelude.{◌<◌, ◌≤◌, length, take, IfOk, OnErr};
 ghost use Rattle.vm_host.specs.Counts.{Counted};
+ghost use Rattle.vm_host.specs.Leaves.{Takes, LeavesSink};
+ghost use Rattle.vm_host.specs.Views.{SinkView};
 
 use thiserror::Error;
 
@@ -12,14 +13,9 @@ pub struct SinkFault;
 
 /// Bytes that are taken in order.
 pub trait Sink {
-    /// Whether it tells the bytes that it took. No call changes this.
-    ghost tells: { Self → Bool };
-
-    /// The bytes that it took, from its start on.
-    ghost taken: { Self → List ℕ };
-
-    /// How often it has answered a fault. It stands still at 2^64 - 1.
-    ghost faults: { Self → ℕ };
+    /// What clauses see of it: whether it tells the bytes that it took, which no call changes, these
+    /// bytes from its start on, and its count of faults, which stands still at 2^64 - 1.
+    ghost seen: { Self → SinkView };
 
     /// Takes the first n bytes of a piece and answers n.
     ///
@@ -28,9 +24,7 @@ pub trait Sink {
     fn write(&mut self, piece: &[u8]) -> Result<usize, SinkFault>
         ensures within { IfOk result (λ n. n ≤ length piece.now) }
         ensures some { 0 < length piece.now → IfOk result (λ n. 0 < n) }
-        ensures told { tells self.new ≡ tells self.old }
-        ensures taken { WhereTold (tells self.old) (MatchResult result
-            (λ n. taken self.new ≡ taken self.old ++ take n piece.now)
-            (λ _. taken self.new ≡ taken self.old)) }
-        ensures cause { Counted (faults self.old) (faults self.new) result };
+        ensures takes { IfOk result (λ n. Takes (take n piece.now) (seen self.old) (seen self.new)) }
+        ensures refused { OnErr result (LeavesSink (seen self.old) (seen self.new)) }
+        ensures cause { Counted (seen self.old).faults (seen self.new).faults result };
 }

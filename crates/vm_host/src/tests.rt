@@ -1,4 +1,7 @@
-use crate::{Gate, Host, HostFault, Image, MemHost, MemSink, NoGate, Place, Sink};
+use crate::{
+    FailedName, Gate, Host, HostFault, Image, MemHost, MemSink, MemText, NoGate, Place, Sink,
+    TextSource,
+};
 use std::test::Fail;
 use vm_law::OutOfMemory;
 
@@ -90,7 +93,24 @@ fn a_listed_call_fails_and_changes_no_file(rt: HostRuntime) -> Result<(), Fail> 
             HostFault::Missing
         };
         assert_eq!(rt; missing, Err(want));
+        let failed: &[u8] = if listed == 6 { b"none" } else { b"f" };
+        assert_eq!(rt; host.failed(), failed);
     }
+    Ok(())
+}
+
+#[test]
+fn a_failed_name_is_kept_up_to_its_limit(rt: HostRuntime) -> Result<(), Fail> {
+    let mut name = FailedName::new();
+    assert!(rt; name.as_bytes().is_empty());
+    let mut long = String::new(rt.alloc());
+    for _ in 0..4097 {
+        long.push('x')?;
+    }
+    name.set(long.as_str());
+    assert_eq!(rt; name.as_bytes(), [b'x'; 4096].as_slice());
+    name.set("f");
+    assert_eq!(rt; name.as_bytes(), b"f".as_slice());
     Ok(())
 }
 
@@ -132,6 +152,28 @@ fn a_sink_that_fails_keeps_what_it_took(rt: HostRuntime) -> Result<(), Fail> {
     assert_eq!(rt; sink.write(b"")?, 0);
     assert_eq!(rt; sink.write(b"ef")?, 2);
     assert_eq!(rt; sink.taken(), b"abef".as_slice());
+    Ok(())
+}
+
+#[test]
+fn a_text_comes_in_pieces(rt: HostRuntime) -> Result<(), Fail> {
+    let bytes = [7; 9000];
+    // (bytes at once at most, lengths of the pieces)
+    let cases: [(usize, [usize; 4]); 3] = [
+        (9000, [4100, 4100, 800, 0]),
+        (4000, [4000, 4000, 1000, 0]),
+        (1, [1, 1, 1, 1]),
+    ];
+    for (most, lengths) in cases {
+        assert!(rt; most > 0);
+        let mut text = MemText::new(&bytes, most);
+        for length in lengths {
+            let mut into = [0; 4100];
+            let count = text.next(&mut into);
+            assert_eq!(rt; count, length, "at most {most}");
+            assert!(rt; into[..count].iter().all(|byte| *byte == 7));
+        }
+    }
     Ok(())
 }
 

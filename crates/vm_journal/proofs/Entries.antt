@@ -4,22 +4,23 @@ use Rattle.std.proofs.lemmas.Bool.{le-ltb}
 use Rattle.vm_law.specs.declared.journal.EndCause.{EndCause}
 use Rattle.vm_law.specs.declared.journal.EndCause.TheVariants.{Budget, Outside}
 use Rattle.vm_law.specs.declared.journal.Entry.{Entry}
-use Rattle.vm_law.specs.declared.journal.Entry.TheVariants.{Claim, Start, Enter, Slice, Step, Exit, Sleep, Wake, Yield, Turn, Meet, Pull, Begin, Move, Hold, Put, Finish, Feed, Wish, Done, End, Close}
-use Rattle.vm_law.specs.Reader.{Read, Reader, with1, with2}
+use Rattle.vm_law.specs.declared.journal.Entry.TheVariants.{Claim, Start, Enter, Slice, Step, Exit, Sleep, Wake, Yield, Turn, Meet, Pull, Begin, Move, Hold, Put, Finish, Feed, Wish, Done, End, Close, Tick}
+use Rattle.byte_reader.specs.declared.reading.Refusal.{Refusal}
+use Rattle.byte_reader.specs.Reader.{Read, Reader, with1, with2}
 use Rattle.vm_law.proofs.Numbers.{IsBytes}
-use Rattle.vm_law.proofs.Readers.{Takes, Takes-then, Reads, Made, done, done_is, then_ok, number_reads, with1_takes, with1_again, with2_takes, with2_again, with3_takes, with3_again}
+use Rattle.byte_reader.proofs.Readers.{Takes, Takes-then, Reads, Made, done, done_is, then_ok, number_reads, with1_takes, with1_again, with2_takes, with2_again, with3_takes, with3_again}
 use Rattle.vm_journal.specs.declared.fault.JournalKind.{JournalKind}
 use Rattle.vm_journal.specs.declared.fault.JournalKind.TheVariants.{Short}
-use Rattle.vm_journal.specs.Spelling.{byte, word, dword, flag, cause, entry_bytes, signed_bytes, IsByte, IsWord, IsDword, FitsEntry, FitsSigned}
-use Rattle.vm_journal.specs.Reading.{byte_at, word_at, dword_at, flag_at, cause_at, vcpu_fields, disk_fields, run_fields, fields_at, entry_at, signed, signed_at}
+use Rattle.vm_journal.specs.Spelling.{byte, word, dword, qword, flag, cause, entry_bytes, signed_bytes, IsByte, IsWord, IsDword, IsQword, FitsEntry, FitsSigned}
+use Rattle.vm_journal.specs.Reading.{byte_at, word_at, dword_at, qword_at, flag_at, cause_at, vcpu_fields, disk_fields, run_fields, fields_at, entry_at, signed, signed_at}
 
 -- one case of a chain of tests
-by_test : {A : Type 0} (b : Bool) (x y : Read JournalKind A) (z : A) (rest : List ℕ) (P : Type 0) → cond b x y ≡ Ok (z, rest) → (b ≡ true → x ≡ Ok (z, rest) → P) → (b ≡ false → y ≡ Ok (z, rest) → P) → P
+by_test : {A : Type 0} (b : Bool) (x y : Read (Refusal JournalKind) A) (z : A) (rest : List ℕ) (P : Type 0) → cond b x y ≡ Ok (z, rest) → (b ≡ true → x ≡ Ok (z, rest) → P) → (b ≡ false → y ≡ Ok (z, rest) → P) → P
 by_test true x y z rest P e hx hy = hx refl e
 by_test false x y z rest P e hx hy = hy refl e
 
 -- the same, of readers
-by_reader : {A : Type 0} (b : Bool) (f g : Reader JournalKind A) (bytes : List ℕ) (z : A) (rest : List ℕ) (P : Type 0) → cond b f g bytes ≡ Ok (z, rest) → (b ≡ true → f bytes ≡ Ok (z, rest) → P) → (b ≡ false → g bytes ≡ Ok (z, rest) → P) → P
+by_reader : {A : Type 0} (b : Bool) (f g : Reader (Refusal JournalKind) A) (bytes : List ℕ) (z : A) (rest : List ℕ) (P : Type 0) → cond b f g bytes ≡ Ok (z, rest) → (b ≡ true → f bytes ≡ Ok (z, rest) → P) → (b ≡ false → g bytes ≡ Ok (z, rest) → P) → P
 by_reader true f g bytes z rest P e hx hy = hx refl e
 by_reader false f g bytes z rest P e hx hy = hy refl e
 
@@ -33,6 +34,9 @@ word_reads = number_reads Short 2
 
 dword_reads : Reads dword_at dword IsDword
 dword_reads = number_reads Short 4
+
+qword_reads : Reads qword_at qword IsQword
+qword_reads = number_reads Short 8
 
 abbrev AnyFlag : Bool → Type 0
 AnyFlag b = Unit {0}
@@ -88,7 +92,7 @@ tagged : {X : Type 0} (make : X → Entry) (text : X → List ℕ) (fits : X →
 tagged make text fits n spelled fit tag bytes y rest is m = (text m.fields, rw (m.is, eqb-true tag n is) (spelled m.fields), m.front, rw m.is (fit m.fields m.each_fits))
 
 no_field : (x : Entry) (n : ℕ) → entry_bytes x ≡ n ∷ [] → FitsEntry x
-    → (tag : ℕ) (bytes : List ℕ) (y : Entry) (rest : List ℕ) → IsBytes bytes → (tag == n) ≡ true → done {K = JournalKind} x bytes ≡ Ok (y, rest) → Tagged tag bytes y rest
+    → (tag : ℕ) (bytes : List ℕ) (y : Entry) (rest : List ℕ) → IsBytes bytes → (tag == n) ≡ true → done {E = Refusal JournalKind} x bytes ≡ Ok (y, rest) → Tagged tag bytes y rest
 no_field x n spelled fit tag bytes y rest fits is f =
     let d = done_is x y bytes rest f in
     ([], rw (← d.0, eqb-true tag n is) spelled, record { parts = d.1; rest_fits = rw (← d.1) fits }, rw (← d.0) fit)
@@ -166,7 +170,9 @@ run_fields_take tag bytes y rest fits e =
     (λ is f. tagged End _ _ 21 (λ x. refl) (λ x h. h) tag bytes y rest is (with1_takes cause_at cause AnyCause cause_reads End bytes y rest fits f))
     (λ isnt e. by_reader (tag == 22) _ _ bytes y rest (Tagged tag bytes y rest) e
     (λ is f. no_field Close 22 refl tt tag bytes y rest fits is f)
-    (λ isnt e. absurd cc))))))
+    (λ isnt e. by_reader (tag == 23) _ _ bytes y rest (Tagged tag bytes y rest) e
+    (λ is f. tagged Tick _ _ 23 (λ x. refl) (λ x h. h) tag bytes y rest is (with1_takes qword_at qword IsQword qword_reads Tick bytes y rest fits f))
+    (λ isnt e. absurd cc)))))))
 
 fields_take : (tag : ℕ) (bytes : List ℕ) (y : Entry) (rest : List ℕ) → IsBytes bytes → fields_at tag bytes ≡ Ok (y, rest) → Tagged tag bytes y rest
 unfolding fields_at
@@ -211,6 +217,7 @@ entry_again Wish rest h = behind_tag 19 _
 entry_again (Done k) rest h = behind_tag 20 _ ∙ with1_again word_at word IsWord word_reads Done k rest h
 entry_again (End why) rest h = behind_tag 21 _ ∙ with1_again cause_at cause AnyCause cause_reads End why rest h
 entry_again Close rest h = behind_tag 22 _
+entry_again (Tick n) rest h = behind_tag 23 _ ∙ with1_again qword_at qword IsQword qword_reads Tick n rest h
 
 entry_takes : (bytes : List ℕ) (y : Entry) (rest : List ℕ) → IsBytes bytes → entry_at bytes ≡ Ok (y, rest) → Takes bytes (entry_bytes y) rest × FitsEntry y
 unfolding entry_at

@@ -4,18 +4,18 @@ use Rattle.std.specs.List.{flat_map, AllByRecursion}
 use Rattle.std.proofs.lemmas.Bool.{cases_lt}
 use Rattle.std.proofs.lemmas.List.Elements.{recursion_from_All}
 use Rattle.std.proofs.lemmas.List.{get_or_default, nil_from_length, append-nil}
-use Rattle.vm_law.specs.declared.reading.Refusal.{Refusal}
+use Rattle.byte_reader.specs.declared.reading.Refusal.{Refusal}
 use Rattle.vm_law.specs.declared.journal.Signed.{Signed}
-use Rattle.vm_law.specs.Reader.{Read, counted}
+use Rattle.byte_reader.specs.Reader.{Read, counted}
 use Rattle.vm_law.proofs.Numbers.{IsBytes}
-use Rattle.vm_law.proofs.Readers.{Reads, done, with3_takes, with3_again}
-use Rattle.vm_law.proofs.Counted.{counted_reads}
+use Rattle.byte_reader.proofs.Readers.{Reads, done, with3_takes, with3_again}
+use Rattle.byte_reader.proofs.Counted.{counted_reads}
 use Rattle.vm_journal.specs.declared.fault.JournalKind.{JournalKind}
 use Rattle.vm_journal.specs.declared.fault.JournalKind.TheVariants.{Gate, Magic, Short, Trailing}
-use Rattle.vm_journal.specs.Fixed.{text_at, ended}
+use Rattle.byte_reader.specs.Fixed.{text_at, ended}
 use Rattle.vm_journal.specs.Spelling.{qword, gate, magic, signed_bytes, spelling, FitsSigned, AreEntries}
 use Rattle.vm_journal.specs.Reading.{signed_at, last, journal_at, whole}
-use Rattle.vm_journal.proofs.Texts.{Any, text_reads}
+use Rattle.byte_reader.proofs.Texts.{Any, text_reads}
 use Rattle.vm_journal.proofs.Entries.{signed_reads}
 
 abbrev counted_text : List Signed → List ℕ
@@ -24,11 +24,11 @@ counted_text journal = qword (length journal) ++ flat_map signed_bytes journal
 entries_read : Reads (counted Short 8 signed_at) counted_text AreEntries
 entries_read = counted_reads signed_at signed_bytes FitsSigned signed_reads Short 8
 
-ended_ok : (read : Read JournalKind (List Signed)) (ys : List Signed) → ended Trailing read ≡ Ok ys → read ≡ Ok (ys, [])
+ended_ok : (read : Read (Refusal JournalKind) (List Signed)) (ys : List Signed) → ended Trailing read ≡ Ok ys → read ≡ Ok (ys, [])
 ended_ok (Err d) ys e = absurd cc
 ended_ok (Ok p) ys e = go (length p.1 == 0) refl e
   where
-    go : (b : Bool) → (length p.1 == 0) ≡ b → cond {A = Result (List Signed) (Refusal JournalKind)} b (Ok p.0) (Err (record { left = length p.1; kind = Trailing })) ≡ Ok ys → done {K = JournalKind} p.0 p.1 ≡ done ys []
+    go : (b : Bool) → (length p.1 == 0) ≡ b → cond {A = Result (List Signed) (Refusal JournalKind)} b (Ok p.0) (Err (record { left = length p.1; kind = Trailing })) ≡ Ok ys → done {E = Refusal JournalKind} p.0 p.1 ≡ done ys []
     go true is e =
         let none : p.1 ≡ [] = nil_from_length p.1 (eqb-true _ _ is) in
         let same_list : p.0 ≡ ys = cc in

@@ -1,4 +1,3 @@
-pub mod Fixed
 pub mod Reading
 pub mod Replaying
 pub mod Spelling

@@ -5,7 +5,7 @@ use Rattle.byteorder.specs.Endian.{little_bytes}
 use Rattle.vm_law.specs.declared.journal.EndCause.{EndCause}
 use Rattle.vm_law.specs.declared.journal.EndCause.TheVariants.{Budget, Outside}
 use Rattle.vm_law.specs.declared.journal.Entry.{Entry}
-use Rattle.vm_law.specs.declared.journal.Entry.TheVariants.{Claim, Start, Enter, Slice, Step, Exit, Sleep, Wake, Yield, Turn, Meet, Pull, Begin, Move, Hold, Put, Finish, Feed, Wish, Done, End, Close}
+use Rattle.vm_law.specs.declared.journal.Entry.TheVariants.{Claim, Start, Enter, Slice, Step, Exit, Sleep, Wake, Yield, Turn, Meet, Pull, Begin, Move, Hold, Put, Finish, Feed, Wish, Done, End, Close, Tick}
 use Rattle.vm_law.specs.declared.journal.Signed.{Signed}
 
 -- numbers of one, two, four and eight bytes
@@ -53,6 +53,7 @@ entry_bytes Wish = 19 ∷ []
 entry_bytes (Done k) = 20 ∷ word k
 entry_bytes (End why) = 21 ∷ cause why
 entry_bytes Close = 22 ∷ []
+entry_bytes (Tick n) = 23 ∷ qword n
 
 -- the number of the pass that added an entry, and the entry
 abbrev pub signed_bytes : Signed → List ℕ
@@ -68,7 +69,7 @@ magic = 0x56 ∷ 0x4D ∷ 0x4A ∷ 0x52 ∷ 0x4E ∷ 0x4C ∷ 0x31 ∷ 0x0A ∷ 
 abbrev pub spelling : List Signed → List ℕ
 spelling journal = gate ++ (magic ++ (qword (length journal) ++ flat_map signed_bytes journal))
 
--- numbers that have room in one, two and four bytes
+-- numbers that have room in one, two, four and eight bytes
 abbrev pub IsByte : ℕ → Type 0
 IsByte n = n < 256 ^ 1
 
@@ -77,6 +78,9 @@ IsWord n = n < 256 ^ 2
 
 abbrev pub IsDword : ℕ → Type 0
 IsDword n = n < 256 ^ 4
+
+abbrev pub IsQword : ℕ → Type 0
+IsQword n = n < 256 ^ 8
 
 -- each field of an entry has room
 abbrev pub FitsEntry : Entry → Type 0
@@ -102,6 +106,7 @@ FitsEntry Wish = Unit {0}
 FitsEntry (Done k) = IsWord k
 FitsEntry (End why) = Unit {0}
 FitsEntry Close = Unit {0}
+FitsEntry (Tick n) = IsQword n
 
 abbrev pub FitsSigned : Signed → Type 0
 FitsSigned s = IsWord s.by × FitsEntry s.entry

@@ -58,6 +58,7 @@ fn entry_fits(entry: Entry)
             id: _id,
         } => {}
         Entry::Done { k: _k } => {}
+        Entry::Tick { n: _n } => {}
         Entry::Meet | Entry::Feed | Entry::Wish | Entry::End { why: _ } | Entry::Close => {}
     }
 }

@@ -1,14 +1,13 @@
 ghost use Rattle.std.specs.Prelude.{◌≡◌, ◌∷◌, ◌+◌, [], List, length, IfOk, Ok, ℕ};
 ghost use Rattle.ckpt_store.specs.Gate.{IsShutOrWhole};
 ghost use Rattle.vm_law.specs.declared.journal.Signed.{Signed};
-ghost use Rattle.vm_law.specs.Reader.{Gives, times, counted};
+ghost use Rattle.byte_reader.specs.Reader.{Gives, times, counted};
 ghost use Rattle.vm_journal.specs.Spelling.{spelling, AreEntries};
 ghost use Rattle.vm_journal.specs.Reading.{flag_at, cause_at, vcpu_fields, disk_fields, run_fields, fields_at, entry_at, signed_at, journal_at, whole, Answers};
 
 use crate::fault::{JournalError, JournalKind};
-use crate::fixed::read_text;
+use byte_reader::{ReadError, Refusal, read_text, read_u8, read_u16, read_u32, read_u64, refused};
 use std::alloc::Global;
-use vm_law::reading::{ReadError, Refusal, read_u8, read_u16, read_u32, read_u64, refused};
 use vm_law::{EndCause, Entry, Journal, Seq, Signed};
 
 type Fault = ReadError<JournalKind>;
@@ -124,6 +123,7 @@ fn read_run_fields(tag: u8, bytes: &[u8]) -> Result<(Entry, &[u8]), Fault>
         20 => read_u16(JournalKind::Short, bytes).map(|(k, rest)| (Entry::Done { k }, rest)),
         21 => read_cause(bytes).map(|(why, rest)| (Entry::End { why }, rest)),
         22 => Ok((Entry::Close, bytes)),
+        23 => read_u64(JournalKind::Short, bytes).map(|(n, rest)| (Entry::Tick { n }, rest)),
         _ => Err(unknown_tag(bytes)),
     }
 }

@@ -102,6 +102,10 @@ fn put_entry(out: &mut Vec<u8>, entry: Entry) -> Result<(), OutOfMemory>
             why: EndCause::Outside,
         } => put_tag(out, 21, 2),
         Entry::Close => put_byte(out, 22),
+        Entry::Tick { n } => {
+            put_byte(out, 23)?;
+            put_u64(out, n)
+        }
     }
 }
 

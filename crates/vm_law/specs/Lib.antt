@@ -1,9 +1,5 @@
 pub mod BitSet
 pub mod CpuSet
-pub mod Grammar
 pub mod Image
-pub mod Meaning
 pub mod Memory
-pub mod Reader
-pub mod Rows
 pub mod Seq

@@ -1,6 +1,6 @@
 use arrayvec::ArrayVec;
 
-/// A descriptor of a split virtqueue. Source: OASIS virtio 1.1, section 2.6.5.
+/// A descriptor of a split virtqueue. Source: OASIS virtio 1.2, section 2.7.5.
 #[derive(Clone, Copy, Debug, Default, PartialEq, Eq)]
 pub struct Descriptor {
     pub addr: u64,
@@ -16,7 +16,7 @@ pub struct ChainList {
     pub descriptors: ArrayVec<Descriptor, 128>,
 }
 
-/// What a block request does. Source: OASIS virtio 1.1, section 5.2.6.
+/// What a block request does. Source: OASIS virtio 1.2, section 5.2.6.
 #[derive(Clone, Copy, Debug, PartialEq, Eq)]
 pub enum Kind {
     Read,

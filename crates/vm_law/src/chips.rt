@@ -50,7 +50,7 @@ pub struct UartState {
     pub received: ArrayVec<u8, 16>,
 }
 
-/// The state of a virtio block device's MMIO window. Source: OASIS virtio 1.1, section 4.2.2.
+/// The state of a virtio block device's MMIO window. Source: OASIS virtio 1.2, section 4.2.2.
 #[derive(Clone, Copy, Debug, PartialEq, Eq)]
 pub struct WindowState {
     /// The disk's capacity.

@@ -22,14 +22,10 @@ pub enum Stop {
     Fetch,
     /// An access to a byte outside memory.
     Memory,
-    /// A store to the code part.
-    CodeWrite,
     /// An access to a device window that isn't a MOV of 32 bits, aligned and inside.
     Device,
     /// The interrupt gate of this vector isn't there or isn't good.
     Gate(u8),
-    /// The frame of this vector doesn't fit into memory.
+    /// The frame of this vector isn't all in memory above the code.
     Frame(u8),
-    /// An instruction that isn't built yet.
-    NotBuilt,
 }

@@ -1,6 +1,6 @@
 use crate::seq::Seq;
 
-/// A flat image: `payload` is loaded at address 0, of which the first `code` bytes are read-only code,
+/// A flat image: `payload` is loaded at address 0, of which the first `code` bytes are the code part,
 /// and vCPU 0 starts at `entry`.
 #[derive(Debug, Drop)]
 pub struct FlatImage {

@@ -46,14 +46,86 @@ pub enum Count {
     Cl,
 }
 
+/// An operation on a destination and a source.
+#[derive(Clone, Copy, Debug, PartialEq, Eq)]
+pub enum ArithmeticOp {
+    Add,
+    Or,
+    /// ADD with the carry flag.
+    Adc,
+    /// SUB with the borrow in the carry flag.
+    Sbb,
+    And,
+    Sub,
+    Xor,
+    /// SUB whose result is dropped.
+    Cmp,
+}
+
+/// An operation on one operand. Products and quotients are of rDX:rAX, at a width of 8 bits of AX.
+#[derive(Clone, Copy, Debug, PartialEq, Eq)]
+pub enum UnaryOp {
+    Not,
+    Neg,
+    Mul,
+    /// MUL of signed numbers.
+    Imul,
+    Div,
+    /// DIV of signed numbers.
+    Idiv,
+}
+
+/// A shift or rotate.
+#[derive(Clone, Copy, Debug, PartialEq, Eq)]
+pub enum ShiftOp {
+    Rol,
+    Ror,
+    /// SHL, which is SAL too.
+    Shl,
+    Shr,
+    Sar,
+}
+
+/// A test of one bit.
+#[derive(Clone, Copy, Debug, PartialEq, Eq)]
+pub enum BitTestOp {
+    /// Copies the bit into the carry flag.
+    Bt,
+    /// The same, and sets the bit.
+    Bts,
+    /// The same, and clears it.
+    Btr,
+    /// The same, and turns it over.
+    Btc,
+}
+
+/// A condition on the flags, in the order of its four bits in an opcode. Source: Intel SDM volume 1, appendix B.
+#[derive(Clone, Copy, Debug, PartialEq, Eq)]
+pub enum Condition {
+    O,
+    No,
+    B,
+    Ae,
+    E,
+    Ne,
+    Be,
+    A,
+    S,
+    Ns,
+    P,
+    Np,
+    L,
+    Ge,
+    Le,
+    G,
+}
+
 /// An operation with its operands. Source: Intel SDM volume 2.
 #[derive(Clone, Copy, Debug, PartialEq, Eq)]
 pub enum Op {
-    /// ADD 0, OR 1, ADC 2, SBB 3, AND 4, SUB 5, XOR 6, CMP 7: destination and source.
-    Alu(u8, Loc, Src),
+    Alu(ArithmeticOp, Loc, Src),
     Test(Loc, Src),
-    /// NOT 2, NEG 3, MUL 4, IMUL 5, DIV 6, IDIV 7.
-    Unary(u8, Loc),
+    Unary(UnaryOp, Loc),
     Inc(Loc),
     Dec(Loc),
     /// IMUL of a register by an operand.
@@ -69,19 +141,16 @@ pub enum Op {
     Xchg(Loc, Loc),
     CmpXchg(Loc, Loc),
     Xadd(Loc, Loc),
-    /// ROL 0, ROR 1, SHL 4, SHR 5, SAR 7.
-    Shift(u8, Loc, Count),
-    /// BT 4, BTS 5, BTR 6, BTC 7.
-    Bit(u8, Loc, Src),
+    Shift(ShiftOp, Loc, Count),
+    Bit(BitTestOp, Loc, Src),
     Bsf(u8, Loc),
     Bsr(u8, Loc),
     Bswap(u8),
-    /// SETcc by its condition, O, NO, B, AE, E, NE, BE, A, S, NS, P, NP, L, GE, LE, G as 0 to 15.
-    SetCc(u8, Loc),
-    /// CMOVcc by its condition, into a register.
-    CMov(u8, u8, Loc),
-    /// Jcc by its condition; the displacement counts from the next instruction.
-    Jcc(u8, i32),
+    SetCc(Condition, Loc),
+    /// CMOVcc into a register.
+    CMov(Condition, u8, Loc),
+    /// Jcc; the displacement counts from the next instruction.
+    Jcc(Condition, i32),
     Jmp(i32),
     Call(i32),
     JmpTo(Loc),

@@ -56,6 +56,8 @@ pub enum Entry {
     End { why: EndCause },
     /// Everything is at rest, and nothing follows.
     Close,
+    /// The timers move on by so many instructions.
+    Tick { n: u64 },
 }
 
 /// An entry with the number of the pass that added it: 0 for control, `1 + i` for vCPU `i`, and then

@@ -28,6 +28,10 @@ pub enum Order {
     Get { cpu: u8, reg: u8 },
     /// Cancels a block request.
     Cancel { disk: u8, id: u32 },
+    /// Writes the machine's state against the file of an earlier checkpoint, its base.
+    Against { name: Text, base: Text },
+    /// Sends what changed of the machine as a round of a stream; while paused, the closing round.
+    Send(Text),
 }
 
 /// A control script, in order.

@@ -1,6 +1,6 @@
 -- The next instruction of a vCPU. Source: Intel SDM volume 3, section 6.15, and volume 2, section 2.3.11, for bytes that
 -- are no instruction.
-use Rattle.std.specs.Prelude.{◌≡◌, ℕ, Bool, true, false, not, ◌&&◌, List, drop, Result, Ok, Err, IsTrue, if◌then◌else◌}
+use Rattle.std.specs.Prelude.{◌≡◌, ℕ, Bool, true, false, not, ◌&&◌, List, take, drop, Result, Ok, Err, IsTrue, if◌then◌else◌}
 use Rattle.vm_law.specs.declared.context.Ctx.{Ctx}
 use Rattle.vm_law.specs.declared.insn.Insn.{Insn}
 use Rattle.x86_decode.specs.declared.fault.DecodeFault.{DecodeFault}
@@ -17,13 +17,13 @@ next_decoded c (Ok x) = if is_local x.0 && not (faults c x.0 0) then Local x.0 x
 next_decoded c (Err fault.Short) = OutOfCode
 next_decoded c (Err fault.Unknown) = Undefined
 
--- the bytes from RIP to the end of the code; none where RIP is at its end or past it
-abbrev pub ahead : List ℕ → Ctx → List ℕ
-ahead code c = drop c.rip code
+-- the bytes from RIP to the end of the code, but at most 15; none where RIP is at the end or past it
+abbrev pub ahead : List ℕ → ℕ → List ℕ
+ahead code rip = take 15 (drop rip code)
 
 -- what stands at RIP
 unfoldable pub next_of : List ℕ → Ctx → Next
-next_of code c = next_decoded c (decoded (ahead code c))
+next_of code c = next_decoded c (decoded (ahead code c.rip))
 
 abbrev pub is_local_next : Next → Bool
 is_local_next (Local insn len) = true

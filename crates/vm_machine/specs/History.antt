@@ -3,7 +3,8 @@ use Rattle.std.specs.Prelude.{◌≡◌, ℕ, Bool, true, ◌&&◌, List, [], �
 use Rattle.vm_law.specs.declared.journal.Signed.{Signed}
 use Rattle.vm_machine.specs.declared.state.Why.{Why}
 use Rattle.vm_machine.specs.declared.start.Start.{Start}
-use Rattle.vm_machine.specs.Table.{State, lawful, after}
+use Rattle.vm_machine.specs.State.{State}
+use Rattle.vm_machine.specs.Table.{lawful, after}
 use Rattle.vm_machine.specs.Starting.{boot}
 
 -- the state after the entries
@@ -14,7 +15,7 @@ after_all s (x ∷ xs) = after_all (after s x) xs
 -- each entry is lawful where it stands
 abbrev pub is_lawful_all : State → List Signed → Bool
 is_lawful_all s [] = true
-is_lawful_all s (x ∷ xs) = lawful s.core x.by x.entry && is_lawful_all (after s x) xs
+is_lawful_all s (x ∷ xs) = lawful s x.by x.entry && is_lawful_all (after s x) xs
 
 -- the entries are a history of the machine from its start on
 abbrev pub IsLegal : Start → List Signed → Type 0
@@ -30,12 +31,12 @@ console_of start history = (last_state start history).console
 
 -- how many instructions were executed in it
 abbrev pub executed_in : Start → List Signed → ℕ
-executed_in start history = (last_state start history).core.executed
+executed_in start history = (last_state start history).executed
 
 -- why the run ended in it, where it did
 abbrev pub why_ended : Start → List Signed → Option Why
-why_ended start history = (last_state start history).core.ended
+why_ended start history = (last_state start history).ended
 
 -- whether nothing can follow it
 abbrev pub is_closed : Start → List Signed → Bool
-is_closed start history = (last_state start history).core.closed
+is_closed start history = (last_state start history).closed

@@ -6,9 +6,10 @@ pub mod Owners
 pub mod Running
 pub mod Control
 pub mod Table
+pub mod Script
+pub mod Starting
 pub mod Sound
 pub mod View
-pub mod Starting
 pub mod History
 pub mod Turns
 pub mod Rounds

@@ -3,21 +3,19 @@ use Rattle.std.specs.Prelude.{◌≡◌, ℕ, zero, suc, ◌+◌, Bool, true, no
 use Rattle.std.specs.Option.{option_to_list, option_map}
 use Rattle.vm_law.specs.declared.journal.Entry.TheVariants.{Slice}
 use Rattle.vm_law.specs.declared.journal.Signed.{Signed}
-use Rattle.vm_machine.specs.declared.state.Core.{Core}
 use Rattle.vm_machine.specs.declared.start.Start.{Start}
-use Rattle.vm_machine.specs.State.{cpu_at, seat_at, code_of, is_running}
+use Rattle.vm_machine.specs.State.{State, cpu_at, seat_at, code_of, is_running}
 use Rattle.vm_machine.specs.Slices.{most_local}
-use Rattle.vm_machine.specs.Table.{State}
 use Rattle.vm_machine.specs.Starting.{boot}
 use Rattle.vm_machine.specs.History.{after_all}
 use Rattle.vm_machine.specs.Turns.{is_exit_due, first_lawful}
 
 -- the runner of i takes its vCPU's context out of the machine
-abbrev pub leases : Core → ℕ → Bool
+abbrev pub leases : State → ℕ → Bool
 leases s i = is_running (cpu_at s i).stage (1 + i) && not (is_exit_due s i)
 
 -- how many instructions it runs outside, as many as are local and its grant allows
-unfoldable pub run_outside : Core → ℕ → ℕ
+unfoldable pub run_outside : State → ℕ → ℕ
 run_outside s i = if leases s i then most_local (code_of s.machine) (cpu_at s i).ctx (seat_at s i).left else 0
 
 -- a run, its history, and for each vCPU how many instructions are out
@@ -35,15 +33,15 @@ brought_back i zero = []
 brought_back i (suc n) = record { by = 1 + i; entry = Slice i (suc n) } ∷ []
 
 -- the first lawful entry of the pass's list, if there is one
-abbrev pub chosen : Core → ℕ → List Signed
+abbrev pub chosen : State → ℕ → List Signed
 chosen s p = option_to_list (option_map (λ e. record { by = p; entry = e }) (first_lawful s p))
 
 abbrev pub choose : Rounds → ℕ → Rounds
-choose r p = added r (chosen r.state.core p)
+choose r p = added r (chosen r.state p)
 
 -- the runner of i goes out
 abbrev pub gone_out : Rounds → ℕ → Rounds
-gone_out r i = record r { out = slice_set r.out i (run_outside r.state.core i) }
+gone_out r i = record r { out = slice_set r.out i (run_outside r.state i) }
 
 -- a turn of the runner of i, and its work outside
 unfoldable pub after_runner : Rounds → ℕ → Rounds
@@ -70,4 +68,4 @@ first_round start = record { state = boot start; history = []; out = replicate s
 pub record IsSolo (start : Start) (history : List Signed) : Type 0 where
   pub rounds : ℕ
   pub made : history ≡ (rounds_from (first_round start) rounds).history
-  pub closed : (rounds_from (first_round start) rounds).state.core.closed ≡ true
+  pub closed : (rounds_from (first_round start) rounds).state.closed ≡ true

@@ -7,8 +7,8 @@ use Rattle.vm_machine.specs.declared.state.Cpu.{Cpu}
 use Rattle.vm_machine.specs.declared.start.Origin.{Origin}
 use Rattle.vm_machine.specs.declared.start.Origin.TheVariants.{Flat}
 use Rattle.vm_machine.specs.declared.start.Start.{Start}
-use Rattle.vm_machine.specs.State.{ctx_from, unstarted_cpu, empty_seat}
-use Rattle.vm_machine.specs.Table.{State}
+use Rattle.vm_machine.specs.Script.{is_allowed}
+use Rattle.vm_machine.specs.State.{MachineState, State, ctx_from, unstarted_cpu, empty_seat, page_count}
 
 abbrev pub image_of : Origin → FlatImage
 image_of (Flat f) = f
@@ -25,8 +25,7 @@ pub record IsSound (start : Start) : Type 0 where
   -- disks aren't built yet
   pub planned_disks : start.plan.disks ≡ []
   pub disks : start.disks ≡ []
-  pub some_order : 1 ≤ length start.script
-  pub script : length start.script ≤ 10000
+  pub script : is_allowed start.plan start.script ≡ true
   pub some_limit : 1 ≤ start.limit
   pub limit : start.limit ≤ 20000000
 
@@ -38,24 +37,27 @@ first_cpu entry = record unstarted_cpu { ctx = ctx_from entry; started = true }
 abbrev pub boot_cpus : ℕ → ℕ → List Cpu
 boot_cpus count entry = first_cpu entry ∷ replicate (count - 1) unstarted_cpu
 
--- the first state: every vCPU idle, the image in memory, no instruction executed and no order done
+-- every vCPU idle, and the image in memory
+abbrev pub boot_machine : Start → MachineState
+boot_machine start = record {
+  cpus = boot_cpus start.plan.cpus (image_of start.origin).entry;
+  ram = loaded start.plan.memory (image_of start.origin);
+  pause = false;
+  meet = None;
+}
+
+-- the first state: no instruction executed, no page of the code stored into, and no order done
 unfoldable pub boot : Start → State
 boot start = record {
-  core = record {
-    machine = record {
-      cpus = boot_cpus start.plan.cpus (image_of start.origin).entry;
-      ram = loaded start.plan.memory (image_of start.origin);
-      pause = false;
-      meet = None;
-    };
-    seats = replicate start.plan.cpus empty_seat;
-    executed = 0;
-    limit = start.limit;
-    entries = 0;
-    script = start.script;
-    place = 0;
-    ended = None;
-    closed = false;
-  };
+  machine = boot_machine start;
+  seats = replicate start.plan.cpus empty_seat;
+  versions = replicate (page_count (image_of start.origin).code) 0;
+  executed = 0;
+  limit = start.limit;
+  entries = 0;
+  script = start.script;
+  place = 0;
   console = [];
+  ended = None;
+  closed = false;
 }

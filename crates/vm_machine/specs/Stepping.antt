@@ -11,25 +11,28 @@ use Rattle.vm_law.specs.declared.insn.Width.TheVariants as width
 use Rattle.vm_law.specs.declared.insn.Op.{Op}
 use Rattle.vm_law.specs.declared.insn.Op.TheVariants as op
 use Rattle.vm_law.specs.declared.insn.Insn.{Insn}
+use Rattle.x86_exec.specs.declared.effect.Stored.{Stored}
 use Rattle.x86_exec.specs.declared.effect.Effect.{Effect}
 use Rattle.x86_exec.specs.declared.effect.Effect.TheVariants as effect
 use Rattle.x86_exec.specs.Shared.{Shared, shared, completed}
 use Rattle.x86_trap.specs.Delivery.{delivered, Delivered}
 
--- context and memory after, whether the vCPU is halted, the byte for the console, and why it couldn't be done
+-- context and memory after, where it stored, whether the vCPU is halted, the byte for the console, and why it couldn't
+-- be done
 pub record Outcome : Type 0 where
   pub ctx : Ctx
   pub memory : Memory
+  pub stored : Option Stored
   pub halted : Bool
   pub output : Option ℕ
   pub stop : Option Stop
 
 abbrev pub done : Ctx → Memory → Outcome
-done c mem = record { ctx = c; memory = mem; halted = false; output = None; stop = None }
+done c mem = record { ctx = c; memory = mem; stored = None; halted = false; output = None; stop = None }
 
 -- nothing changes
 abbrev pub stopped : Ctx → Memory → Stop → Outcome
-stopped c mem why = record { ctx = c; memory = mem; halted = false; output = None; stop = Some why }
+stopped c mem why = record { ctx = c; memory = mem; stored = None; halted = false; output = None; stop = Some why }
 
 -- what a delivery came to
 abbrev pub after_delivery : Ctx → Memory → Delivered → Result (Unit {0}) Stop → Outcome
@@ -64,7 +67,7 @@ abbrev pub all_ones : ℕ
 all_ones = 0xFFFFFFFF
 
 unfoldable pub performed_as : Ctx → Insn → ℕ → Memory → Shared → Effect → Outcome
-performed_as c insn len mem s effect.Done = done s.ctx s.memory
+performed_as c insn len mem s effect.Done = record (done s.ctx s.memory) { stored = s.stored }
 performed_as c insn len mem s effect.Halt = record (done s.ctx mem) { halted = true }
 performed_as c insn len mem s (effect.Trap v error) = trapped c (pushed_rip c insn.op len) mem v error
 performed_as c insn len mem s (effect.Stop why) = stopped c mem why

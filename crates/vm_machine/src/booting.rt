@@ -2,7 +2,7 @@
 ghost use Rattle.std.specs.Prelude.{◌≡◌, ◌≤◌, length, take, replicate, IfOk};
 ghost use Rattle.vm_machine.specs.State as state;
 ghost use Rattle.vm_machine.specs.Starting as spec;
-ghost use Rattle.vm_machine.specs.Sound.{IsSoundCore};
+ghost use Rattle.vm_machine.specs.Sound.{IsSoundState};
 
 use crate::copying::script_copy;
 use crate::start::{Origin, Start};
@@ -10,6 +10,9 @@ use crate::state::{Core, Cpu, Machine, Seat};
 use guest_ram::GuestRam;
 use std::alloc::Global;
 use vm_law::{Ctx, FlatImage, OutOfMemory, Owned, Seq};
+
+/// The bytes of a page of memory.
+const PAGE: u64 = 4096;
 
 #[tactic(auto, unfolding(crate::specs::State::ctx_from))]
 fn ctx_from(rip: u64) -> Ctx
@@ -85,39 +88,60 @@ fn image_of(origin: &Origin) -> &FlatImage
     }
 }
 
-#[tactic(auto, unfolding(crate::specs::Starting::boot))]
-fn first_core(alloc: Global, start: &Start) -> Result<Core, OutOfMemory>
+fn boot_versions(alloc: Global, code: u64) -> Result<Seq<u64>, OutOfMemory>
+    requires { code ≤ 16777216 }
+    ensures { IfOk result (λ versions. versions ≡ replicate (state.page_count code) 0) }
+{
+    let pages = (code + PAGE - 1) / PAGE;
+    let mut versions = Vec::new(alloc);
+    versions.resize(pages as usize, 0)?;
+    Ok(Seq::from_vec(versions))
+}
+
+fn boot_machine(alloc: Global, start: &Start) -> Result<Machine, OutOfMemory>
     requires { spec.IsSound start.now }
-    ensures { IfOk result (λ core. core ≡ (spec.boot start.now).core) }
+    ensures { IfOk result (λ machine. machine.state ≡ spec.boot_machine start.now) }
 {
     let image = image_of(&start.origin);
     let cpus = boot_cpus(alloc, start.plan.cpus, image.entry)?;
-    let seats = boot_seats(alloc, start.plan.cpus)?;
     let ram = GuestRam::new(alloc, start.plan.memory, image)?;
+    Ok(Machine {
+        cpus,
+        ram,
+        pause: false,
+        meet: None,
+    })
+}
+
+#[tactic(auto, unfolding(crate::specs::Starting::boot))]
+fn first_core(alloc: Global, start: &Start) -> Result<Core, OutOfMemory>
+    requires { spec.IsSound start.now }
+    ensures { IfOk result (λ core. core.state ≡ spec.boot start.now) }
+{
+    let machine = boot_machine(alloc, start)?;
+    let seats = boot_seats(alloc, start.plan.cpus)?;
+    let versions = boot_versions(alloc, image_of(&start.origin).code)?;
     let script = script_copy(alloc, &start.script)?;
     Ok(Core {
-        machine: Machine {
-            cpus,
-            ram,
-            pause: false,
-            meet: None,
-        },
+        machine,
         seats,
+        versions,
         executed: 0,
         limit: start.limit,
         entries: 0,
         script,
         place: 0,
+        console: Vec::new(alloc),
         ended: None,
         closed: false,
     })
 }
 
-/// The first state of a run, but for its console, which is empty.
+/// The first state of a run.
 pub(crate) fn boot(alloc: Global, start: &Start) -> Result<Core, OutOfMemory>
     requires { spec.IsSound start.now }
-    ensures state { IfOk result (λ core. core ≡ (spec.boot start.now).core) }
-    ensures sound { IfOk result IsSoundCore }
+    ensures state { IfOk result (λ core. core.state ≡ spec.boot start.now) }
+    ensures sound { IfOk result (λ core. IsSoundState core.state) }
 {
     let core = first_core(alloc, start)?;
     Ok(core)

@@ -3,7 +3,7 @@ ghost use Rattle.std.specs.Prelude.{◌≡◌, ◌+◌, ◌<◌, ◌≤◌, leng
 ghost use Rattle.std.specs.Option.{option_copied};
 ghost use Rattle.vm_machine.specs.State as state;
 ghost use Rattle.vm_machine.specs.Control as spec;
-ghost use Rattle.vm_machine.specs.Sound.{IsSoundCore};
+ghost use Rattle.vm_machine.specs.Sound.{IsSoundState};
 
 use crate::state::{Core, Cpu, Why};
 use vm_law::{EndCause, Order, Owned};
@@ -26,48 +26,69 @@ fn any_eager(cpus: &[Cpu]) -> bool
 /// Whether nothing more can happen by itself.
 #[tactic(auto, unfolding(crate::specs::Control::is_quiet))]
 pub(crate) fn is_quiet(core: &Core) -> bool
-    ensures { result ≡ spec.is_quiet core.now }
+    ensures { result ≡ spec.is_quiet core.now.state }
 {
     !any_eager(core.machine.cpus.as_slice()) && core.machine.meet.is_none()
 }
 
 #[tactic(auto, unfolding(crate::specs::Control::order_at))]
 fn order_at(core: &Core) -> Option<&Order>
-    ensures { option_copied result ≡ spec.order_at core.now }
+    ensures { option_copied result ≡ spec.order_at core.now.state }
 {
     core.script.as_slice().get(core.place as usize)
 }
 
-fn is_met(core: &Core, order: Option<&Order>) -> bool
-    ensures { result ≡ spec.is_met core.now (option_copied order.entry) }
+// Whether an order is a wait whose condition holds.
+fn is_met(core: &Core, order: &Order) -> bool
+    ensures { result ≡ spec.is_met core.now.state order.now }
 {
     match order {
-        Some(Order::WaitQuiet) => is_quiet(core),
+        Order::WaitQuiet => is_quiet(core),
+        Order::WaitConsole(count) => core.console.len() as u64 >= *count || is_quiet(core),
+        Order::WaitExecuted(count) => core.executed >= *count || is_quiet(core),
         _ => false,
     }
 }
 
-fn is_wait(order: Option<&Order>) -> bool
-    ensures { result ≡ spec.is_wait (option_copied order.entry) }
+fn is_wait(order: &Order) -> bool
+    ensures { result ≡ spec.is_wait order.now }
+{
+    matches!(
+        order,
+        Order::WaitQuiet | Order::WaitConsole(_) | Order::WaitExecuted(_)
+    )
+}
+
+fn is_ready(core: &Core, order: Option<&Order>) -> bool
+    ensures { result ≡ spec.is_ready core.now.state (option_copied order.entry) }
 {
     match order {
-        Some(Order::WaitQuiet | Order::WaitConsole(_) | Order::WaitExecuted(_)) => true,
-        _ => false,
+        None => false,
+        Some(order) => is_met(core, order),
+    }
+}
+
+fn is_waiting(core: &Core, order: Option<&Order>) -> bool
+    ensures { result ≡ spec.is_waiting core.now.state (option_copied order.entry) }
+{
+    match order {
+        None => false,
+        Some(order) => is_wait(order) && !is_met(core, order),
     }
 }
 
 #[tactic(auto, unfolding(crate::specs::Control::may_done))]
 pub(crate) fn may_done(core: &Core, by: u16, k: u16) -> bool
-    ensures { result ≡ spec.may_done core.now by k }
+    ensures { result ≡ spec.may_done core.now.state by k }
 {
-    by == 0 && k == core.place && core.ended.is_none() && is_met(core, order_at(core))
+    by == 0 && k == core.place && core.ended.is_none() && is_ready(core, order_at(core))
 }
 
 #[tactic(auto, unfolding(crate::specs::Control::may_done, crate::specs::Control::after_done, crate::specs::Control::order_at))]
 pub(crate) fn done(core: &mut Core, by: u16, k: u16)
-    requires sound { IsSoundCore core.old }
-    requires may { IsTrue (spec.may_done core.old by k) }
-    ensures { core.new ≡ spec.after_done core.old }
+    requires sound { IsSoundState core.old.state }
+    requires may { IsTrue (spec.may_done core.old.state by k) }
+    ensures { core.new ≡ record core.old { state = spec.after_done core.old.state } }
 {
     core.place += 1;
     if core.place as usize == core.script.len() {
@@ -77,21 +98,19 @@ pub(crate) fn done(core: &mut Core, by: u16, k: u16)
 
 #[tactic(auto, unfolding(crate::specs::Control::is_used_up))]
 fn is_used_up(core: &Core) -> bool
-    ensures { result ≡ spec.is_used_up core.now }
+    ensures { result ≡ spec.is_used_up core.now.state }
 {
     if core.entries >= ENTRY_LIMIT {
         return true;
     }
-    let order = order_at(core);
-    is_wait(order)
-        && !is_met(core, order)
+    is_waiting(core, order_at(core))
         && core.executed == core.limit
         && any_eager(core.machine.cpus.as_slice())
 }
 
 #[tactic(auto, unfolding(crate::specs::Control::may_end))]
 pub(crate) fn may_end(core: &Core, by: u16, cause: EndCause) -> bool
-    ensures { result ≡ spec.may_end core.now by cause }
+    ensures { result ≡ spec.may_end core.now.state by cause }
 {
     if by != 0 || core.ended.is_some() {
         return false;
@@ -104,7 +123,7 @@ pub(crate) fn may_end(core: &Core, by: u16, cause: EndCause) -> bool
 
 #[tactic(auto, unfolding(crate::specs::Control::after_end))]
 pub(crate) fn end(core: &mut Core, cause: EndCause)
-    ensures { core.new ≡ spec.after_end core.old cause }
+    ensures { core.new ≡ record core.old { state = spec.after_end core.old.state cause } }
 {
     core.ended = Some(match cause {
         EndCause::Budget => Why::Budget,
@@ -120,7 +139,7 @@ fn all_idle(cpus: &[Cpu]) -> bool
 
 #[tactic(auto, unfolding(crate::specs::Control::may_close))]
 pub(crate) fn may_close(core: &Core, by: u16) -> bool
-    ensures { result ≡ spec.may_close core.now by }
+    ensures { result ≡ spec.may_close core.now.state by }
 {
     by == 0
         && core.ended.is_some()
@@ -130,7 +149,7 @@ pub(crate) fn may_close(core: &Core, by: u16) -> bool
 
 #[tactic(auto, unfolding(crate::specs::Control::after_close))]
 pub(crate) fn close(core: &mut Core)
-    ensures { core.new ≡ spec.after_close core.old }
+    ensures { core.new ≡ record core.old { state = spec.after_close core.old.state } }
 {
     core.closed = true;
 }

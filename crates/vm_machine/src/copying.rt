@@ -30,6 +30,12 @@ fn order_copy(alloc: Global, order: &Order) -> Result<Order, OutOfMemory>
             disk: *disk,
             id: *id,
         },
+        Order::Against { name, base } => {
+            let name = name.copy(alloc)?;
+            let base = base.copy(alloc)?;
+            Order::Against { name, base }
+        }
+        Order::Send(name) => Order::Send(name.copy(alloc)?),
     })
 }
 

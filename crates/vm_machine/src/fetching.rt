@@ -1,7 +1,10 @@
 //! What a vCPU's next instruction is.
-ghost use Rattle.std.specs.Prelude.{◌≡◌, drop};
+ghost use Rattle.std.specs.Prelude.{◌≡◌};
+ghost use Rattle.vm_law.specs.Memory.{code_of};
+ghost use Rattle.x86_decode.specs.Reading.{decoded};
 ghost use Rattle.vm_machine.specs.Fetching as spec;
 
+use guest_ram::GuestRam;
 use vm_law::{Ctx, Insn};
 use x86_decode::{DecodeFault, decode};
 use x86_op::{faults, is_local};
@@ -19,24 +22,22 @@ pub enum Next {
     OutOfCode,
 }
 
-fn ahead(code: &[u8], rip: u64) -> &[u8]
-    ensures { result.now ≡ drop rip code.now }
+/// Decodes the bytes of the code from an address on, at most 15.
+fn decode_at(ram: &GuestRam, rip: u64) -> Result<(Insn, u8), DecodeFault>
+    ensures { result ≡ decoded (spec.ahead (code_of ram.now.memory) rip) }
 {
-    if rip < code.len() as u64 {
-        &code[rip as usize..]
-    } else {
-        &code[code.len()..]
-    }
+    let mut bytes = [0; 15];
+    let count = ram.fetch(rip, &mut bytes);
+    decode(&bytes[..count])
 }
 
-/// What stands at RIP of a context, in this code, which begins at address 0. A division that faults in this context
-/// isn't local.
+/// What stands at RIP of a context, in the code of this memory. A division that faults in this context isn't local.
 #[tactic(auto, unfolding(crate::specs::Fetching::next_of))]
-pub fn next_of(code: &[u8], ctx: &Ctx) -> Next
-    ensures next { result ≡ spec.next_of code.now ctx.now }
+pub fn next_of(ram: &GuestRam, ctx: &Ctx) -> Next
+    ensures next { result ≡ spec.next_of (code_of ram.now.memory) ctx.now }
     ensures found { spec.IsFound ctx.now result }
 {
-    match decode(ahead(code, ctx.rip)) {
+    match decode_at(ram, ctx.rip) {
         Ok((insn, len)) => {
             if is_local(&insn) && !faults(ctx, &insn, 0) {
                 Next::Local { insn, len }

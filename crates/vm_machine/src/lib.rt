@@ -6,9 +6,10 @@
 //! exactly the table's step, so that a list of entries has one meaning. From a [`Start`] a run begins by
 //! [`Run::begin`], and its readers give what the state holds.
 //!
-//! Built are Claim, Enter, Slice, Step, Exit, Yield, Done for `wait quiet`, End and Close, with all instructions:
+//! Built are Claim, Enter, Slice, Step, Exit, Yield, Done for the waits, End and Close, with all instructions:
 //! a Slice runs those that touch a vCPU's own registers, a Step one that reaches memory or a port, with the exception
-//! that it may raise. An entry of another kind is lawful nowhere. No device is wired in yet: the data port of the
+//! that it may raise. A guest may write its own code: an instruction is fetched from memory as it is, and each page of
+//! the code has a version, which counts the Steps that stored into it. An entry of another kind is lawful nowhere. No device is wired in yet: the data port of the
 //! serial port takes bytes for the console, other ports give all ones, and the devices' windows give 0.
 //!
 //! The definitions say besides what a legal history is, what it shows, and which entries an actor adds in its
@@ -33,7 +34,7 @@ pub use fetching::{Next, next_of};
 pub use run::Run;
 pub use slices::{all_local, run_slice};
 pub use start::{Origin, Start};
-pub use state::{Core, Cpu, Machine, Meeting, Seat, Why};
+pub use state::{Cpu, Machine, Meeting, Seat, Why};
 
 #[cfg(test)]
 mod tests;

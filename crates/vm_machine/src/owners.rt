@@ -2,7 +2,7 @@
 ghost use Rattle.std.specs.Prelude.{◌≡◌, ◌<◌, length, IsTrue};
 ghost use Rattle.vm_machine.specs.State as state;
 ghost use Rattle.vm_machine.specs.Owners as spec;
-ghost use Rattle.vm_machine.specs.Sound.{IsSoundCore};
+ghost use Rattle.vm_machine.specs.Sound.{IsSoundState};
 
 use crate::state::{Core, Meeting};
 use vm_law::Owned;
@@ -29,8 +29,8 @@ fn awaits(meet: &Option<Meeting>, i: u8) -> bool
 
 #[tactic(auto, unfolding(crate::specs::Owners::may_claim))]
 pub(crate) fn may_claim(core: &Core, by: u16, i: u8) -> bool
-    requires { IsSoundCore core.now }
-    ensures { result ≡ spec.may_claim core.now by i }
+    requires { IsSoundState core.now.state }
+    ensures { result ≡ spec.may_claim core.now.state by i }
 {
     if i as usize >= core.machine.cpus.len() {
         return false;
@@ -47,17 +47,17 @@ pub(crate) fn may_claim(core: &Core, by: u16, i: u8) -> bool
 
 #[tactic(auto, unfolding(crate::specs::Owners::may_claim, crate::specs::Owners::after_claim))]
 pub(crate) fn claim(core: &mut Core, by: u16, i: u8)
-    requires sound { IsSoundCore core.old }
-    requires may { IsTrue (spec.may_claim core.old by i) }
-    ensures { core.new ≡ spec.after_claim core.old by i }
+    requires sound { IsSoundState core.old.state }
+    requires may { IsTrue (spec.may_claim core.old.state by i) }
+    ensures { core.new ≡ record core.old { state = spec.after_claim core.old.state by i } }
 {
     core.machine.cpus.at_mut(i as usize).stage = Owned::Frozen(by);
 }
 
 #[tactic(auto, unfolding(crate::specs::Owners::may_exit))]
 pub(crate) fn may_exit(core: &Core, by: u16, i: u8) -> bool
-    requires { IsSoundCore core.now }
-    ensures { result ≡ spec.may_exit core.now by i }
+    requires { IsSoundState core.now.state }
+    ensures { result ≡ spec.may_exit core.now.state by i }
 {
     if i as usize >= core.machine.cpus.len() {
         return false;
@@ -73,9 +73,9 @@ pub(crate) fn may_exit(core: &Core, by: u16, i: u8) -> bool
 
 #[tactic(auto, unfolding(crate::specs::Owners::may_exit, crate::specs::Owners::after_exit))]
 pub(crate) fn exit(core: &mut Core, by: u16, i: u8)
-    requires sound { IsSoundCore core.old }
-    requires may { IsTrue (spec.may_exit core.old by i) }
-    ensures { core.new ≡ spec.after_exit core.old by i }
+    requires sound { IsSoundState core.old.state }
+    requires may { IsTrue (spec.may_exit core.old.state by i) }
+    ensures { core.new ≡ record core.old { state = spec.after_exit core.old.state by i } }
 {
     core.machine.cpus.at_mut(i as usize).stage = Owned::Frozen(by);
     let seat = core.seats.at_mut(i as usize);
@@ -85,8 +85,8 @@ pub(crate) fn exit(core: &mut Core, by: u16, i: u8)
 
 #[tactic(auto, unfolding(crate::specs::Owners::may_yield))]
 pub(crate) fn may_yield(core: &Core, by: u16, i: u8) -> bool
-    requires { IsSoundCore core.now }
-    ensures { result ≡ spec.may_yield core.now by i }
+    requires { IsSoundState core.now.state }
+    ensures { result ≡ spec.may_yield core.now.state by i }
 {
     if i as usize >= core.machine.cpus.len() {
         return false;
@@ -102,9 +102,9 @@ pub(crate) fn may_yield(core: &Core, by: u16, i: u8) -> bool
 
 #[tactic(auto, unfolding(crate::specs::Owners::may_yield, crate::specs::Owners::after_yield))]
 pub(crate) fn yield_idle(core: &mut Core, by: u16, i: u8)
-    requires sound { IsSoundCore core.old }
-    requires may { IsTrue (spec.may_yield core.old by i) }
-    ensures { core.new ≡ spec.after_yield core.old i }
+    requires sound { IsSoundState core.old.state }
+    requires may { IsTrue (spec.may_yield core.old.state by i) }
+    ensures { core.new ≡ record core.old { state = spec.after_yield core.old.state i } }
 {
     core.machine.cpus.at_mut(i as usize).stage = Owned::Idle;
 }

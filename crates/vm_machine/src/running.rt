@@ -1,19 +1,24 @@
 //! A vCPU runs: Enter, Slice, Step.
-ghost use Rattle.std.specs.Prelude.{◌≡◌, ◌<◌, ◌≤◌, ◌+◌, ◌^◌, length, IsTrue, Some};
+ghost use Rattle.std.specs.Prelude.{◌≡◌, ◌<◌, ◌≤◌, ◌+◌, ◌^◌, length, slice_index, IsTrue, Some, is_some, IfSome};
+ghost use Rattle.vm_law.specs.Memory.{code_of};
 ghost use Rattle.vm_machine.specs.State as state;
 ghost use Rattle.vm_machine.specs.Running as spec;
 ghost use Rattle.vm_machine.specs.Slices as slices;
 ghost use Rattle.vm_machine.specs.declared.state.Why.{Why};
 ghost use Rattle.vm_machine.specs.declared.fetching.Next.{Next};
-ghost use Rattle.vm_machine.specs.Sound.{IsSoundCore};
+ghost use Rattle.vm_machine.specs.Sound.{IsSoundState};
 
 use crate::fetching::{Next, next_of};
-use crate::slices::{all_local, run_many};
+use crate::slices::{all_local, run_many, run_slice};
 use crate::state::{Core, Meeting, Seat, Why};
 use crate::stepping::{Performed, perform, undefined};
-use vm_law::{Ctx, Insn, Owned, Stop};
+use vm_law::{Bytes, Ctx, Insn, Owned, Seq, Stop};
+use x86_exec::Stored;
 
 const LARGEST_GRANT: u16 = 1024;
+
+/// The bytes of a page of memory.
+const PAGE: u64 = 4096;
 
 /// What is left of the grants of all vCPUs.
 #[tactic(auto, unfolding(crate::specs::Running::open_grants))]
@@ -26,8 +31,8 @@ pub(crate) fn open_grants(seats: &[Seat]) -> u64
 
 #[tactic(auto, unfolding(crate::specs::Running::may_enter))]
 pub(crate) fn may_enter(core: &Core, by: u16, i: u8, grant: u16) -> bool
-    requires { IsSoundCore core.now }
-    ensures { result ≡ spec.may_enter core.now by i grant }
+    requires { IsSoundState core.now.state }
+    ensures { result ≡ spec.may_enter core.now.state by i grant }
 {
     if i as usize >= core.machine.cpus.len() || by != 1 + u16::from(i) {
         return false;
@@ -46,9 +51,9 @@ pub(crate) fn may_enter(core: &Core, by: u16, i: u8, grant: u16) -> bool
 
 #[tactic(auto, unfolding(crate::specs::Running::may_enter, crate::specs::Running::after_enter))]
 pub(crate) fn enter(core: &mut Core, by: u16, i: u8, grant: u16)
-    requires sound { IsSoundCore core.old }
-    requires may { IsTrue (spec.may_enter core.old by i grant) }
-    ensures { core.new ≡ spec.after_enter core.old by i grant }
+    requires sound { IsSoundState core.old.state }
+    requires may { IsTrue (spec.may_enter core.old.state by i grant) }
+    ensures { core.new ≡ record core.old { state = spec.after_enter core.old.state by i grant } }
 {
     let cpu = core.machine.cpus.at_mut(i as usize);
     cpu.stage = Owned::Running(by);
@@ -69,11 +74,11 @@ fn is_starter(meet: &Option<Meeting>, i: u8) -> bool
 
 #[tactic(auto, unfolding(crate::specs::Running::spent))]
 fn spend(core: &mut Core, i: u8, count: u16)
-    requires seat { i < length core.old.seats }
-    requires left { count ≤ (state.seat_at core.old i).left }
-    requires ran { (state.seat_at core.old i).ran + count < 2 ^ 64 }
-    requires executed { core.old.executed + count < 2 ^ 64 }
-    ensures { core.new ≡ spec.spent core.old i count }
+    requires seat { i < length core.old.state.seats }
+    requires left { count ≤ (state.seat_at core.old.state i).left }
+    requires ran { (state.seat_at core.old.state i).ran + count < 2 ^ 64 }
+    requires executed { core.old.state.executed + count < 2 ^ 64 }
+    ensures { core.new ≡ record core.old { state = spec.spent core.old.state i count } }
 {
     let seat = core.seats.at_mut(i as usize);
     seat.left -= count;
@@ -82,10 +87,11 @@ fn spend(core: &mut Core, i: u8, count: u16)
     core.executed += u64::from(count);
 }
 
-#[tactic(auto, unfolding(crate::specs::Running::may_slice))]
-pub(crate) fn may_slice(core: &Core, by: u16, i: u8, count: u16) -> bool
-    requires { IsSoundCore core.now }
-    ensures { result ≡ spec.may_slice core.now by i count }
+/// Whether a vCPU may run a Slice of `count` instructions, if these are local.
+#[tactic(auto, unfolding(crate::specs::Running::has_slice))]
+fn has_slice(core: &Core, by: u16, i: u8, count: u16) -> bool
+    requires { IsSoundState core.now.state }
+    ensures { result ≡ spec.has_slice core.now.state by i count }
 {
     if i as usize >= core.machine.cpus.len() {
         return false;
@@ -94,50 +100,72 @@ pub(crate) fn may_slice(core: &Core, by: u16, i: u8, count: u16) -> bool
     if cpu.stage != Owned::Running(by) || cpu.halted {
         return false;
     }
-    if count < 1 || count > core.seats.at(i as usize).left || is_starter(&core.machine.meet, i) {
-        return false;
+    count >= 1 && count <= core.seats.at(i as usize).left && !is_starter(&core.machine.meet, i)
+}
+
+#[tactic(auto, unfolding(crate::specs::Running::may_slice, crate::specs::Running::has_slice))]
+pub(crate) fn may_slice(core: &Core, by: u16, i: u8, count: u16) -> bool
+    requires { IsSoundState core.now.state }
+    ensures { result ≡ spec.may_slice core.now.state by i count }
+{
+    has_slice(core, by, i, count)
+        && all_local(
+            &core.machine.ram,
+            &core.machine.cpus.at(i as usize).ctx,
+            count,
+        )
+}
+
+/// The context after a Slice, where it may be run.
+#[tactic(auto, unfolding(crate::specs::Running::may_slice, crate::specs::Running::has_slice))]
+pub(crate) fn slice_ahead(core: &Core, by: u16, i: u8, count: u16) -> Option<Ctx>
+    requires { IsSoundState core.now.state }
+    ensures may { is_some result ≡ spec.may_slice core.now.state by i count }
+    ensures ran { IfSome result (slices.LocalRun (state.code_of core.now.state.machine) (state.cpu_at core.now.state i).ctx count) }
+{
+    if !has_slice(core, by, i, count) {
+        return None;
     }
-    all_local(core.machine.ram.code_part(), &cpu.ctx, count)
+    let mut ctx = ctx_of(core, i);
+    let ran = run_slice(&core.machine.ram, &mut ctx, count);
+    if ran == count { Some(ctx) } else { None }
 }
 
 /// The Slice whose context after it was computed elsewhere.
-#[tactic(auto, unfolding(crate::specs::Running::may_slice, crate::specs::Running::after_slice))]
+#[tactic(auto, unfolding(crate::specs::Running::may_slice, crate::specs::Running::has_slice, crate::specs::Running::after_slice))]
 pub(crate) fn put_slice(core: &mut Core, by: u16, i: u8, count: u16, ctx: Ctx)
-    requires sound { IsSoundCore core.old }
-    requires may { IsTrue (spec.may_slice core.old by i count) }
-    requires reached { ctx ≡ slices.stepped_by (state.code_of core.old.machine) (state.cpu_at core.old i).ctx count }
-    ensures { core.new ≡ spec.after_slice core.old i count }
+    requires sound { IsSoundState core.old.state }
+    requires may { IsTrue (spec.may_slice core.old.state by i count) }
+    requires reached { ctx ≡ slices.stepped_by (state.code_of core.old.state.machine) (state.cpu_at core.old.state i).ctx count }
+    ensures { core.new ≡ record core.old { state = spec.after_slice core.old.state i count } }
 {
     core.machine.cpus.at_mut(i as usize).ctx = ctx;
     spend(core, i, count);
 }
 
-#[tactic(auto, unfolding(crate::specs::Running::may_slice))]
+#[tactic(auto, unfolding(crate::specs::Running::may_slice, crate::specs::Running::has_slice))]
 pub(crate) fn slice(core: &mut Core, by: u16, i: u8, count: u16)
-    requires sound { IsSoundCore core.old }
-    requires may { IsTrue (spec.may_slice core.old by i count) }
-    ensures { core.new ≡ spec.after_slice core.old i count }
+    requires sound { IsSoundState core.old.state }
+    requires may { IsTrue (spec.may_slice core.old.state by i count) }
+    ensures { core.new ≡ record core.old { state = spec.after_slice core.old.state i count } }
 {
     let mut ctx = core.machine.cpus.at(i as usize).ctx;
-    run_many(core.machine.ram.code_part(), &mut ctx, count);
+    run_many(&core.machine.ram, &mut ctx, count);
     put_slice(core, by, i, count, ctx);
 }
 
 /// What stands at RIP of a vCPU.
 fn next_at(core: &Core, i: u8) -> Next
-    requires { IsTrue (state.is_cpu core.now i) }
-    ensures next { result ≡ spec.next_at core.now i }
+    requires { IsTrue (state.is_cpu core.now.state i) }
+    ensures next { result ≡ spec.next_at core.now.state i }
 {
-    next_of(
-        core.machine.ram.code_part(),
-        &core.machine.cpus.at(i as usize).ctx,
-    )
+    next_of(&core.machine.ram, &core.machine.cpus.at(i as usize).ctx)
 }
 
 #[tactic(auto, unfolding(crate::specs::Running::may_step))]
 pub(crate) fn may_step(core: &Core, by: u16, i: u8) -> bool
-    requires { IsSoundCore core.now }
-    ensures { result ≡ spec.may_step core.now by i }
+    requires { IsSoundState core.now.state }
+    ensures { result ≡ spec.may_step core.now.state by i }
 {
     if i as usize >= core.machine.cpus.len() {
         return false;
@@ -157,84 +185,145 @@ pub(crate) fn may_step(core: &Core, by: u16, i: u8) -> bool
 
 /// A Stop ends the run and changes nothing else.
 fn stop(core: &mut Core, i: u8, stop: Stop)
-    requires { IsTrue (state.is_cpu core.old i) }
-    ensures { core.new ≡ record core.old { ended = Some (Why.Stopped i stop (state.cpu_at core.old i).ctx.rip) } }
+    requires { IsTrue (state.is_cpu core.old.state i) }
+    ensures { core.new ≡ record core.old { state = record core.old.state { ended = Some (Why.Stopped i stop (state.cpu_at core.old.state i).ctx.rip) } } }
 {
     let rip = core.machine.cpus.at(i as usize).ctx.rip;
     core.ended = Some(Why::Stopped { cpu: i, stop, rip });
 }
 
-/// Notes what an instruction did, whose memory stands already, and gives its byte for the console.
-#[tactic(auto, unfolding(crate::specs::Running::settled_by))]
-fn settle(core: &mut Core, i: u8, ctx: Ctx, done: Performed) -> Option<u8>
-    requires sound { IsSoundCore core.old }
-    requires cpu { IsTrue (state.is_cpu core.old i) }
-    requires left { 1 ≤ (state.seat_at core.old i).left }
-    ensures state { core.new ≡ spec.settled_by core.old i (spec.outcome ctx core.old.machine.ram done.halted done.output done.stop) done.stop }
-    ensures output { result ≡ done.output }
+/// One version more for a page of the code.
+fn count_store(versions: &mut Seq<u64>, page: usize)
+    requires page { page < length versions.old }
+    requires fits { slice_index versions.old page + 1 < 2 ^ 64 }
+    ensures { versions.new ≡ state.one_more versions.old page }
+{
+    *versions.at_mut(page) += 1;
+}
+
+/// Counts a store in the versions of the pages of code that it touches.
+#[tactic(auto, unfolding(crate::specs::State::touched))]
+fn touch(versions: &mut Seq<u64>, code: u64, stored: Stored)
+    requires pages { length versions.old ≡ state.page_count code }
+    requires fits { spec.AreBelow versions.old (2 ^ 63) }
+    requires inside { stored.at + stored.len < 2 ^ 64 }
+    ensures { versions.new ≡ state.touched versions.old code stored }
+{
+    if stored.at >= code {
+        return;
+    }
+    let end = (stored.at + u64::from(stored.len)).min(code);
+    let first = stored.at / PAGE;
+    let last = end.saturating_sub(1) / PAGE;
+    count_store(versions, first as usize);
+    if last != first {
+        count_store(versions, last as usize);
+    }
+}
+
+/// Notes what an instruction stored and what it gave to the console, on the state that has its memory already.
+fn note(core: &mut Core, done: Performed)
+    requires sound { IsSoundState core.old.state }
+    requires room { 1 ≤ core.old.room }
+    requires stored { spec.IsInside core.old.state.machine.ram done.stored }
+    ensures state { core.new.state ≡ spec.noted core.old.state done.stored done.output }
+    ensures room { core.old.room ≤ core.new.room + 1 }
+    ensures spare { core.new.spare ≡ core.old.spare }
+{
+    core.machine.ram.is_sound();
+    if let Some(stored) = done.stored {
+        touch(&mut core.versions, core.machine.ram.code(), stored);
+    }
+    if let Some(byte) = done.output {
+        core.console.push_reserved(byte);
+    }
+}
+
+/// Notes what an instruction did, whose memory stands already.
+#[tactic(auto, unfolding(crate::specs::Running::settled_by, crate::specs::Running::spent))]
+fn settle(core: &mut Core, i: u8, ctx: &Ctx, done: Performed)
+    requires sound { IsSoundState core.old.state }
+    requires cpu { IsTrue (state.is_cpu core.old.state i) }
+    requires left { 1 ≤ (state.seat_at core.old.state i).left }
+    requires room { 1 ≤ core.old.room }
+    requires stored { spec.IsInside core.old.state.machine.ram done.stored }
+    ensures state { core.new.state ≡ spec.settled_by core.old.state i
+        (spec.outcome ctx.now core.old.state.machine.ram done.stored done.halted done.output done.stop) done.stop }
+    ensures ram { core.new.state.machine.ram ≡ core.old.state.machine.ram }
+    ensures room { core.old.room ≤ core.new.room + 1 }
+    ensures spare { core.new.spare ≡ core.old.spare }
 {
     match done.stop {
         Some(why) => stop(core, i, why),
         None => {
             let cpu = core.machine.cpus.at_mut(i as usize);
-            cpu.ctx = ctx;
+            cpu.ctx = *ctx;
             cpu.halted = done.halted;
+            note(core, done);
             spend(core, i, 1);
         }
     }
-    done.output
 }
 
 /// The registers of a vCPU.
 fn ctx_of(core: &Core, i: u8) -> Ctx
-    requires { IsTrue (state.is_cpu core.now i) }
-    ensures { result ≡ (state.cpu_at core.now i).ctx }
+    requires { IsTrue (state.is_cpu core.now.state i) }
+    ensures { result ≡ (state.cpu_at core.now.state i).ctx }
 {
     core.machine.cpus.at(i as usize).ctx
 }
 
-/// One instruction that isn't local, and the byte that it gives to the console.
+/// One instruction that isn't local.
 #[tactic(auto, unfolding(crate::specs::Running::outcome_of))]
-fn share(core: &mut Core, i: u8, insn: Insn, len: u8) -> Option<u8>
-    requires sound { IsSoundCore core.old }
-    requires cpu { IsTrue (state.is_cpu core.old i) }
-    requires left { 1 ≤ (state.seat_at core.old i).left }
-    ensures state { core.new ≡ spec.settled core.old i (spec.outcome_of (state.cpu_at core.old i).ctx core.old.machine.ram (Next.Shared insn len)) }
-    ensures output { result ≡ spec.output_by (spec.outcome_of (state.cpu_at core.old i).ctx core.old.machine.ram (Next.Shared insn len)) }
+fn share(core: &mut Core, i: u8, insn: &Insn, len: u8)
+    requires sound { IsSoundState core.old.state }
+    requires cpu { IsTrue (state.is_cpu core.old.state i) }
+    requires left { 1 ≤ (state.seat_at core.old.state i).left }
+    requires room { 1 ≤ core.old.room }
+    requires spare { 4 ≤ core.old.spare }
+    ensures state { core.new.state ≡ spec.settled core.old.state i (spec.outcome_of (state.cpu_at core.old.state i).ctx core.old.state.machine.ram (Next.Shared insn.now len)) }
+    ensures code { core.new.state.machine.ram.code ≡ core.old.state.machine.ram.code }
+    ensures room { core.old.room ≤ core.new.room + 1 }
+    ensures spare { core.old.spare ≤ core.new.spare + 4 }
 {
     let mut ctx = ctx_of(core, i);
-    let done = perform(&mut ctx, &mut core.machine.ram, &insn, len);
-    settle(core, i, ctx, done)
+    let done = perform(&mut ctx, &mut core.machine.ram, insn, len);
+    settle(core, i, &ctx, done);
 }
 
 /// Bytes that no instruction spells.
 #[tactic(auto, unfolding(crate::specs::Running::outcome_of))]
-fn refuse(core: &mut Core, i: u8) -> Option<u8>
-    requires sound { IsSoundCore core.old }
-    requires cpu { IsTrue (state.is_cpu core.old i) }
-    requires left { 1 ≤ (state.seat_at core.old i).left }
-    ensures state { core.new ≡ spec.settled core.old i (spec.outcome_of (state.cpu_at core.old i).ctx core.old.machine.ram Next.Undefined) }
-    ensures output { result ≡ spec.output_by (spec.outcome_of (state.cpu_at core.old i).ctx core.old.machine.ram Next.Undefined) }
+fn refuse(core: &mut Core, i: u8)
+    requires sound { IsSoundState core.old.state }
+    requires cpu { IsTrue (state.is_cpu core.old.state i) }
+    requires left { 1 ≤ (state.seat_at core.old.state i).left }
+    requires room { 1 ≤ core.old.room }
+    requires spare { 2 ≤ core.old.spare }
+    ensures state { core.new.state ≡ spec.settled core.old.state i (spec.outcome_of (state.cpu_at core.old.state i).ctx core.old.state.machine.ram Next.Undefined) }
+    ensures code { core.new.state.machine.ram.code ≡ core.old.state.machine.ram.code }
+    ensures room { core.old.room ≤ core.new.room + 1 }
+    ensures spare { core.old.spare ≤ core.new.spare + 2 }
 {
     let mut ctx = ctx_of(core, i);
     let done = undefined(&mut ctx, &mut core.machine.ram);
-    settle(core, i, ctx, done)
+    settle(core, i, &ctx, done);
 }
 
-#[tactic(auto, unfolding(crate::specs::Running::may_step, crate::specs::Running::after_step, crate::specs::Running::step_output, crate::specs::Running::outcome_of, crate::specs::Running::settled_by))]
-pub(crate) fn step(core: &mut Core, by: u16, i: u8) -> Option<u8>
-    requires sound { IsSoundCore core.old }
-    requires may { IsTrue (spec.may_step core.old by i) }
-    ensures state { core.new ≡ spec.after_step core.old i }
-    ensures output { result ≡ spec.step_output core.old i }
+#[tactic(auto, unfolding(crate::specs::Running::may_step, crate::specs::Running::after_step, crate::specs::Running::outcome_of, crate::specs::Running::settled_by))]
+pub(crate) fn step(core: &mut Core, by: u16, i: u8)
+    requires sound { IsSoundState core.old.state }
+    requires may { IsTrue (spec.may_step core.old.state by i) }
+    requires room { 1 ≤ core.old.room }
+    requires spare { 6 ≤ core.old.spare }
+    ensures state { core.new.state ≡ spec.after_step core.old.state i }
+    ensures code { core.new.state.machine.ram.code ≡ core.old.state.machine.ram.code }
+    ensures room { core.old.room ≤ core.new.room + 1 }
+    ensures spare { core.old.spare ≤ core.new.spare + 6 }
 {
     match next_at(core, i) {
-        Next::Local { .. } => None,
-        Next::Shared { insn, len } => share(core, i, insn, len),
+        Next::Local { .. } => {}
+        Next::Shared { insn, len } => share(core, i, &insn, len),
         Next::Undefined => refuse(core, i),
-        Next::OutOfCode => {
-            stop(core, i, Stop::Fetch);
-            None
-        }
+        Next::OutOfCode => stop(core, i, Stop::Fetch),
     }
 }

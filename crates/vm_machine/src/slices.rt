@@ -1,18 +1,20 @@
 //! Local instructions in a row.
 ghost use Rattle.std.specs.Prelude.{◌≡◌};
+ghost use Rattle.vm_law.specs.Memory.{code_of};
 ghost use Rattle.vm_machine.specs.Slices as spec;
 
 use crate::fetching::{Next, next_of};
+use guest_ram::GuestRam;
 use vm_law::Ctx;
 use x86_op::run_local;
 
 /// Runs the next instruction where it is local, and says whether it is.
 #[tactic(auto, unfolding(crate::specs::Slices::stepped, crate::specs::Slices::stands_local))]
-pub(crate) fn step_local(code: &[u8], ctx: &mut Ctx) -> bool
-    ensures local { result ≡ spec.stands_local code.now ctx.old }
-    ensures ctx { ctx.new ≡ spec.stepped code.now ctx.old }
+pub(crate) fn step_local(ram: &GuestRam, ctx: &mut Ctx) -> bool
+    ensures local { result ≡ spec.stands_local (code_of ram.now.memory) ctx.old }
+    ensures ctx { ctx.new ≡ spec.stepped (code_of ram.now.memory) ctx.old }
 {
-    match next_of(code, ctx) {
+    match next_of(ram, ctx) {
         Next::Local { insn, len } => {
             run_local(ctx, &insn, len);
             true
@@ -23,12 +25,12 @@ pub(crate) fn step_local(code: &[u8], ctx: &mut Ctx) -> bool
 
 /// Whether the next `count` instructions are local, each in its own context.
 #[tactic(auto, using(crate::proofs::Steps::all_local_fails))]
-pub fn all_local(code: &[u8], ctx: &Ctx, count: u16) -> bool
-    ensures { result ≡ spec.all_local code.now ctx.now count }
+pub fn all_local(ram: &GuestRam, ctx: &Ctx, count: u16) -> bool
+    ensures { result ≡ spec.all_local (code_of ram.now.memory) ctx.now count }
 {
     let mut at = *ctx;
     for _done in 0..count {
-        if !step_local(code, &mut at) {
+        if !step_local(ram, &mut at) {
             return false;
         }
     }
@@ -36,12 +38,12 @@ pub fn all_local(code: &[u8], ctx: &Ctx, count: u16) -> bool
 }
 
 /// Runs local instructions for as long as there are any, but at most `most`, and says how many it ran.
-pub fn run_slice(code: &[u8], ctx: &mut Ctx, most: u16) -> u16
-    ensures ran { spec.LocalRun code.now ctx.old result ctx.new }
-    ensures most { result ≡ spec.most_local code.now ctx.old most }
+pub fn run_slice(ram: &GuestRam, ctx: &mut Ctx, most: u16) -> u16
+    ensures ran { spec.LocalRun (code_of ram.now.memory) ctx.old result ctx.new }
+    ensures most { result ≡ spec.most_local (code_of ram.now.memory) ctx.old most }
 {
     for done in 0..most {
-        if !step_local(code, ctx) {
+        if !step_local(ram, ctx) {
             return done;
         }
     }
@@ -49,10 +51,10 @@ pub fn run_slice(code: &[u8], ctx: &mut Ctx, most: u16) -> u16
 }
 
 /// Runs that many instructions. One that isn't local is left out, and so are those behind it.
-pub(crate) fn run_many(code: &[u8], ctx: &mut Ctx, count: u16)
-    ensures { ctx.new ≡ spec.stepped_by code.now ctx.old count }
+pub(crate) fn run_many(ram: &GuestRam, ctx: &mut Ctx, count: u16)
+    ensures { ctx.new ≡ spec.stepped_by (code_of ram.now.memory) ctx.old count }
 {
     for _done in 0..count {
-        step_local(code, ctx);
+        step_local(ram, ctx);
     }
 }

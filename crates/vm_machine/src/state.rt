@@ -1,6 +1,7 @@
 //! What a run consists of.
 
 use guest_ram::GuestRam;
+use std::marker::Model;
 use vm_law::{CpuSet, Ctx, MeetKind, Order, Owned, Seq, Stop};
 
 /// A virtual processor.
@@ -27,17 +28,30 @@ pub struct Meeting {
     pub done: CpuSet,
 }
 
-/// The machine as its guest sees it.
+/// The machine as its guest sees it. Contracts see its state, and for how many pages of memory it has room.
 #[derive(Debug, Drop)]
 pub struct Machine {
     /// The vCPUs by their numbers, at most 16.
     pub cpus: Seq<Cpu>,
-    /// Memory, of which the code part never changes.
+    /// Memory, with the code part at its front.
     pub ram: GuestRam,
     /// Whether a pause is wished.
     pub pause: bool,
     /// The open rendezvous.
     pub meet: Option<Meeting>,
+}
+
+impl Model for Machine {
+    ghost use Rattle.vm_machine.specs.View.{MachineView, machine_code};
+
+    ghost Value = { MachineView };
+
+    ghost coded = { machine_code };
+
+    ghost view = { λ m. record {
+      state = record { cpus = m.cpus; ram = m.ram.memory; pause = m.pause; meet = m.meet };
+      spare = m.ram.spare;
+    } };
 }
 
 /// What a run keeps of a vCPU beside the machine. A stay is from an Enter to the next Exit.
@@ -64,23 +78,55 @@ pub enum Why {
     Outside,
 }
 
-/// A run without what the console received.
+/// A run. Contracts see its state, and for how many console bytes and how many pages of memory it has room.
 #[derive(Debug, Drop)]
-pub struct Core {
-    pub machine: Machine,
+pub(crate) struct Core {
+    pub(crate) machine: Machine,
     /// For each vCPU its seat.
-    pub seats: Seq<Seat>,
+    pub(crate) seats: Seq<Seat>,
+    /// For each page of the code how often an instruction stored into it.
+    pub(crate) versions: Seq<u64>,
     /// How many instructions were executed in all.
-    pub executed: u64,
+    pub(crate) executed: u64,
     /// How many may be.
-    pub limit: u64,
+    pub(crate) limit: u64,
     /// How many entries there were; it stands still at its type's end.
-    pub entries: u64,
-    pub script: Seq<Order>,
+    pub(crate) entries: u64,
+    pub(crate) script: Seq<Order>,
     /// How many orders of the script are done.
-    pub place: u16,
+    pub(crate) place: u16,
+    /// What the console received.
+    pub(crate) console: Vec<u8>,
     /// Why the run ended, where it did.
-    pub ended: Option<Why>,
+    pub(crate) ended: Option<Why>,
     /// Whether nothing can follow.
-    pub closed: bool,
+    pub(crate) closed: bool,
+}
+
+impl Model for Core {
+    ghost use Rattle.std.specs.Prelude.{◌-◌};
+    ghost use Rattle.std.specs.Vec.{vec_len, vec_capacity};
+    ghost use Rattle.vm_machine.specs.View.{CoreView, core_code};
+
+    ghost Value = { CoreView };
+
+    ghost coded = { core_code };
+
+    ghost view = { λ c. record {
+      state = record {
+        machine = c.machine.state;
+        seats = c.seats;
+        versions = c.versions;
+        executed = c.executed;
+        limit = c.limit;
+        entries = c.entries;
+        script = c.script;
+        place = c.place;
+        console = c.console.items;
+        ended = c.ended;
+        closed = c.closed;
+      };
+      room = vec_capacity c.console - vec_len c.console;
+      spare = c.machine.spare;
+    } };
 }

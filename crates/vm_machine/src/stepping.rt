@@ -1,10 +1,12 @@
 //! One instruction that isn't local.
-ghost use Rattle.std.specs.Prelude.{◌≡◌, IsSome};
+ghost use Rattle.std.specs.Prelude.{◌≡◌, ◌≤◌, ◌+◌, IsSome};
+ghost use Rattle.vm_law.specs.Memory.{KeepsSize};
+ghost use Rattle.vm_machine.specs.Running.{IsInside};
 ghost use Rattle.vm_machine.specs.Stepping as spec;
 
 use guest_ram::GuestRam;
 use vm_law::{Ctx, Insn, Op, Stop, Width};
-use x86_exec::{Effect, complete, run_shared};
+use x86_exec::{Effect, Stored, complete, perform as execute};
 use x86_trap::deliver;
 
 /// The data port of the first serial port.
@@ -19,6 +21,8 @@ const INVALID_OPCODE: u8 = 6;
 /// What an instruction did besides to registers and memory.
 #[derive(Clone, Copy)]
 pub(crate) struct Performed {
+    /// Which bytes it stored, where it stored any.
+    pub stored: Option<Stored>,
     /// Whether it halted its vCPU.
     pub halted: bool,
     /// The byte that it gave to the console.
@@ -29,6 +33,7 @@ pub(crate) struct Performed {
 
 /// Nothing besides.
 const PLAIN: Performed = Performed {
+    stored: None,
     halted: false,
     output: None,
     stop: None,
@@ -70,12 +75,17 @@ fn pushed_rip(ctx: &Ctx, op: Op, len: u8) -> u64
 /// Delivers an exception or a software interrupt, which pushes this RIP.
 #[tactic(auto, unfolding(crate::specs::Stepping::trapped))]
 fn trap(ctx: &mut Ctx, ram: &mut GuestRam, rip: u64, vector: u8, error: Option<u64>) -> Performed
-    ensures ctx { ctx.new ≡ (spec.trapped ctx.old rip ram.old vector error).ctx }
-    ensures memory { ram.new ≡ (spec.trapped ctx.old rip ram.old vector error).memory }
-    ensures halted { result.halted ≡ (spec.trapped ctx.old rip ram.old vector error).halted }
-    ensures output { result.output ≡ (spec.trapped ctx.old rip ram.old vector error).output }
-    ensures stop { result.stop ≡ (spec.trapped ctx.old rip ram.old vector error).stop }
-    ensures kept { IsSome result.stop → ram.new ≡ ram.old }
+    requires { 2 ≤ ram.old.spare }
+    ensures ctx { ctx.new ≡ (spec.trapped ctx.old rip ram.old.memory vector error).ctx }
+    ensures memory { ram.new.memory ≡ (spec.trapped ctx.old rip ram.old.memory vector error).memory }
+    ensures stored { result.stored ≡ (spec.trapped ctx.old rip ram.old.memory vector error).stored }
+    ensures halted { result.halted ≡ (spec.trapped ctx.old rip ram.old.memory vector error).halted }
+    ensures output { result.output ≡ (spec.trapped ctx.old rip ram.old.memory vector error).output }
+    ensures stop { result.stop ≡ (spec.trapped ctx.old rip ram.old.memory vector error).stop }
+    ensures kept { IsSome result.stop → ram.new.memory ≡ ram.old.memory }
+    ensures inside { IsInside ram.new.memory result.stored }
+    ensures size { KeepsSize ram.old.memory ram.new.memory }
+    ensures spare { ram.old.spare ≤ ram.new.spare + 2 }
 {
     let before = ctx.rip;
     ctx.rip = rip;
@@ -94,12 +104,17 @@ fn trap(ctx: &mut Ctx, ram: &mut GuestRam, rip: u64, vector: u8, error: Option<u
 /// Bytes that no instruction spells.
 #[tactic(auto, unfolding(crate::specs::Stepping::undefined))]
 pub(crate) fn undefined(ctx: &mut Ctx, ram: &mut GuestRam) -> Performed
-    ensures ctx { ctx.new ≡ (spec.undefined ctx.old ram.old).ctx }
-    ensures memory { ram.new ≡ (spec.undefined ctx.old ram.old).memory }
-    ensures halted { result.halted ≡ (spec.undefined ctx.old ram.old).halted }
-    ensures output { result.output ≡ (spec.undefined ctx.old ram.old).output }
-    ensures stop { result.stop ≡ (spec.undefined ctx.old ram.old).stop }
-    ensures kept { IsSome result.stop → ram.new ≡ ram.old }
+    requires { 2 ≤ ram.old.spare }
+    ensures ctx { ctx.new ≡ (spec.undefined ctx.old ram.old.memory).ctx }
+    ensures memory { ram.new.memory ≡ (spec.undefined ctx.old ram.old.memory).memory }
+    ensures stored { result.stored ≡ (spec.undefined ctx.old ram.old.memory).stored }
+    ensures halted { result.halted ≡ (spec.undefined ctx.old ram.old.memory).halted }
+    ensures output { result.output ≡ (spec.undefined ctx.old ram.old.memory).output }
+    ensures stop { result.stop ≡ (spec.undefined ctx.old ram.old.memory).stop }
+    ensures kept { IsSome result.stop → ram.new.memory ≡ ram.old.memory }
+    ensures inside { IsInside ram.new.memory result.stored }
+    ensures size { KeepsSize ram.old.memory ram.new.memory }
+    ensures spare { ram.old.spare ≤ ram.new.spare + 2 }
 {
     let rip = ctx.rip;
     trap(ctx, ram, rip, INVALID_OPCODE, None)
@@ -108,15 +123,25 @@ pub(crate) fn undefined(ctx: &mut Ctx, ram: &mut GuestRam) -> Performed
 /// One instruction of `len` bytes.
 #[tactic(auto, unfolding(crate::specs::Stepping::performed, crate::specs::Stepping::performed_as))]
 pub(crate) fn perform(ctx: &mut Ctx, ram: &mut GuestRam, insn: &Insn, len: u8) -> Performed
-    ensures ctx { ctx.new ≡ (spec.performed ctx.old insn.now len ram.old).ctx }
-    ensures memory { ram.new ≡ (spec.performed ctx.old insn.now len ram.old).memory }
-    ensures halted { result.halted ≡ (spec.performed ctx.old insn.now len ram.old).halted }
-    ensures output { result.output ≡ (spec.performed ctx.old insn.now len ram.old).output }
-    ensures stop { result.stop ≡ (spec.performed ctx.old insn.now len ram.old).stop }
-    ensures kept { IsSome result.stop → ram.new ≡ ram.old }
+    requires { 4 ≤ ram.old.spare }
+    ensures ctx { ctx.new ≡ (spec.performed ctx.old insn.now len ram.old.memory).ctx }
+    ensures memory { ram.new.memory ≡ (spec.performed ctx.old insn.now len ram.old.memory).memory }
+    ensures stored { result.stored ≡ (spec.performed ctx.old insn.now len ram.old.memory).stored }
+    ensures halted { result.halted ≡ (spec.performed ctx.old insn.now len ram.old.memory).halted }
+    ensures output { result.output ≡ (spec.performed ctx.old insn.now len ram.old.memory).output }
+    ensures stop { result.stop ≡ (spec.performed ctx.old insn.now len ram.old.memory).stop }
+    ensures kept { IsSome result.stop → ram.new.memory ≡ ram.old.memory }
+    ensures inside { IsInside ram.new.memory result.stored }
+    ensures size { KeepsSize ram.old.memory ram.new.memory }
+    ensures spare { ram.old.spare ≤ ram.new.spare + 4 }
 {
-    match run_shared(ctx, insn, len, ram) {
-        Effect::Done | Effect::Store { .. } => PLAIN,
+    let done = execute(ctx, insn, len, ram);
+    match done.effect {
+        Effect::Done => Performed {
+            stored: done.stored,
+            ..PLAIN
+        },
+        Effect::Store { .. } => PLAIN,
         Effect::Halt => Performed {
             halted: true,
             ..PLAIN

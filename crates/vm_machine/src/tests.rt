@@ -2,11 +2,12 @@ ghost use Rattle.std.specs.Prelude.{◌≡◌, ◌≤◌, ◌<◌, [], length, I
 ghost use Rattle.vm_machine.specs.Starting.{IsSound};
 
 use super::*;
+use guest_ram::GuestRam;
 use std::alloc::Global;
 use std::test::Fail;
 use vm_law::{
-    Bytes, EndCause, Entry, FlatImage, Insn, Loc, Op, Order, OutOfMemory, Owned, Plan, Seq, Src,
-    Stop, Text, Width,
+    Bytes, Ctx, EndCause, Entry, FlatImage, Insn, Loc, Op, Order, OutOfMemory, Owned, Plan, Seq,
+    Src, Stop, Text, Width,
 };
 
 /// MOV EDX, 3F8; MOV AL, 41; OUT DX, AL; HLT.
@@ -64,6 +65,7 @@ fn plan_of(alloc: Global, cpus: u8) -> Plan
 }
 
 /// A start with this payload, of which the first `code` bytes are code.
+#[tactic(auto, unfolding(crate::specs::Script::may_follow, crate::specs::Script::may_stand))]
 fn start_with(
     alloc: Global,
     cpus: u8,
@@ -191,7 +193,14 @@ fn rests(run: &Run) -> bool {
 
 /// Whether the memory has the code still.
 fn has_code(run: &Run) -> bool {
-    run.machine().ram.code_part() == ONE_BYTE.as_slice()
+    let ram = &run.machine().ram;
+    ram.is_sound();
+    let mut code = [0; 9];
+    let inside = ram.size() >= 9;
+    if inside {
+        ram.read(0, &mut code);
+    }
+    inside && ram.code() == 9 && code == ONE_BYTE
 }
 
 #[test]
@@ -478,11 +487,11 @@ static STOPS: [(&[u8], Stop, u64, u64); 18] = [
     (&[0xF7, 0xF0], Stop::Gate(0), 0, 0),
     (&[0xCC], Stop::Gate(3), 0, 0),
     (&[0xCD, 0x80], Stop::Gate(0x80), 0, 0),
-    // MOV BYTE [0x100000], 1: the first byte behind memory; MOV BYTE [0], 1: code
+    // MOV BYTE [0x100000], 1: the first byte behind memory; MOV BYTE [0], 1: code, which may be stored
     (&[0xC6, 0x04, 0x25, 0, 0, 0x10, 0, 1], Stop::Memory, 0, 0),
-    (&[0xC6, 0x04, 0x25, 0, 0, 0, 0, 1], Stop::CodeWrite, 0, 0),
-    // ADD BYTE [0], 0 stores too, CMP BYTE [0], 0 doesn't
-    (&[0x80, 0x04, 0x25, 0, 0, 0, 0, 0], Stop::CodeWrite, 0, 0),
+    (&[0xC6, 0x04, 0x25, 0, 0, 0, 0, 1], Stop::Fetch, 8, 1),
+    // ADD BYTE [0], 0 and CMP BYTE [0], 0
+    (&[0x80, 0x04, 0x25, 0, 0, 0, 0, 0], Stop::Fetch, 8, 1),
     (&[0x80, 0x3C, 0x25, 0, 0, 0, 0, 0], Stop::Fetch, 8, 1),
     // MOV EAX, 0xFEE00020; MOV BYTE [RAX], 1
     (&[0xB8, 0x20, 0, 0xE0, 0xFE, 0xC6, 0, 1], Stop::Device, 5, 1),
@@ -551,15 +560,20 @@ fn an_exception_is_delivered(rt: HostRuntime) -> Result<(), Fail> {
     Ok(())
 }
 
+/// Whether two instructions and no more stand local from a context on.
+fn has_two_local(ram: &GuestRam, ctx: &Ctx) -> bool {
+    all_local(ram, ctx, 2) && !all_local(ram, ctx, 3)
+}
+
 #[test]
 fn a_slice_can_be_put(rt: HostRuntime) -> Result<(), Fail> {
     let (mut run, wrong) = play(rt.alloc(), 1, &ONE_BYTE, 100, &RUNNING)?;
     assert_eq!(rt; wrong, 0);
     run.is_sound();
     let before = run.cpu(0).ctx;
-    assert!(rt; all_local(&ONE_BYTE, &before, 2) && !all_local(&ONE_BYTE, &before, 3));
+    assert!(rt; has_two_local(&run.machine().ram, &before));
     let mut ctx = before;
-    let n = run_slice(run.machine().ram.code_part(), &mut ctx, run.left(0));
+    let n = run.run_ahead(&mut ctx, run.left(0));
     assert_eq!(rt; (n, ctx.rip, ctx.regs[2]), (2, 7, 0x3F8));
     let lawful = run.may(1, &Entry::Slice { cpu: 0, n });
     assert!(rt; lawful);
@@ -582,8 +596,24 @@ fn what_stands_next_is_found(rt: HostRuntime) -> Result<(), Fail> {
         op: Op::Mov(Loc::Reg(2), Src::Imm(0x3F8)),
     };
     assert_eq!(rt;
-        next_of(&ONE_BYTE, &run.cpu(0).ctx),
+        next_of(&run.machine().ram, &run.cpu(0).ctx),
         Next::Local { insn, len: 5 }
     );
+    Ok(())
+}
+
+/// MOV BYTE [0x0E], 0x42; MOV EDX, 0x3F8; MOV AL, 0x41, whose last byte is the one stored; OUT DX, AL; HLT.
+const STORING: [u8; 17] = [
+    0xC6, 0x04, 0x25, 0x0E, 0, 0, 0, 0x42, 0xBA, 0xF8, 0x03, 0, 0, 0xB0, 0x41, 0xEE, 0xF4,
+];
+
+/// A guest runs the code that it stored.
+#[test]
+fn stored_code_is_run(rt: HostRuntime) -> Result<(), Fail> {
+    let run = run_single(rt.alloc(), &STORING)?;
+    run.is_sound();
+    assert_eq!(rt; (run.executed(), run.console()), (5, b"B".as_slice()));
+    assert!(rt; run.machine().ram.code() == 17);
+    assert_eq!(rt; run.version(0), 1);
     Ok(())
 }

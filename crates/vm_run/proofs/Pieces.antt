@@ -1,10 +1,9 @@
 -- How a file is read piece by piece.
-use Rattle.std.proofs.Common.{◌≡◌, inl, inr, Ok, Option, Some, None, IsSomeAnd, refl, ℕ, ◌+◌, ◌-◌, ◌<◌, ◌≤◌, List, drop, append_assoc, length-drop, ◌++◌, length, take, sym, ◌∙◌, ap, arith, length-append, length-take}
+use Rattle.std.proofs.Common.{◌≡◌, Result, Ok, Err, Option, Some, None, IsSomeAnd, refl, ℕ, ◌+◌, ◌-◌, ◌<◌, ◌≤◌, List, drop, append_assoc, length-drop, ◌++◌, length, take, sym, ◌∙◌, ap, arith, length-append, length-take}
 use Rattle.std.proofs.Math.Seq.{take-add}
 use Rattle.std.proofs.lemmas.List.{take_all}
-use Rattle.std.proofs.lemmas.Bool.{cases_lt}
 use Rattle.vm_host.specs.Files.{ReadsFrom}
-use Rattle.vm_host.specs.Counts.{HasCause}
+use Rattle.std.specs.Prelude.{OnErr}
 
 -- a piece more
 pub read_more : (bytes file buffer : List ℕ) (n : ℕ) → bytes ≡ take (length bytes) file → ReadsFrom file (length bytes) buffer n → bytes ++ take n buffer ≡ take (length (bytes ++ take n buffer)) file
@@ -34,9 +33,7 @@ took_more taken bytes i n le =
     ∙ append_assoc taken (take i bytes) (take n (drop i bytes))
     ∙ ap (λ (l : List ℕ). taken ++ l) (sym (take-add i n bytes))
 
--- a call with an answer counts nothing
-pub ok_quiet : {T : Type 0} (faults faults_now misses misses_now : ℕ) (x : T) → HasCause faults faults_now misses misses_now (Ok x) → (faults_now ≡ faults) × (misses_now ≡ misses)
-ok_quiet f g m n x cause =
-    let same : g ≡ f = elim (cases_lt f g) [ inl lt ↦ absurd (let bad = cause.only_failed lt in cc) | inr le ↦ omega (arith, cause.later) ] in
-    let same_misses : n ≡ m = elim (cases_lt m n) [ inl lt ↦ absurd (let bad = cause.only_missing lt in cc) | inr le ↦ omega (arith, cause.later_misses) ] in
-    (same, same_misses)
+-- what holds anyhow holds after an error
+pub on_any : {T E : Type 0} (r : Result T E) (P : Type 0) → P → OnErr r P
+on_any (Ok x) P h = tt
+on_any (Err e) P h = h

@@ -1,5 +1,5 @@
 -- A machine of one vCPU goes on until it is closed.
-use Rattle.std.proofs.Common.{◌≡◌, ℕ, zero, suc, ◌+◌, ◌-◌, ◌*◌, ◌^◌, ◌<◌, ◌≤◌, Bool, true, false, not, cond, List, [], ◌∷◌, ◌++◌, refl, sym, ap, subst, ◌∙◌, inl, inr, ◌⊎◌, arith, min, Option, Some, None}
+use Rattle.std.proofs.Common.{◌≡◌, ℕ, zero, suc, ◌+◌, ◌-◌, ◌*◌, ◌^◌, ◌<◌, ◌≤◌, Bool, true, false, not, cond, [], ◌∷◌, ◌++◌, refl, sym, ap, subst, ◌∙◌, inl, inr, ◌⊎◌, arith, min, Option, Some, None}
 use Rattle.std.specs.Prelude.{◌&&◌, ◌||◌, ◌==◌, nat_le, nat_lt, is_some, if◌then◌else◌}
 use Rattle.std.specs.List.{find}
 use Rattle.std.specs.Option.{option_to_list, option_map}
@@ -10,7 +10,6 @@ use Rattle.vm_law.specs.declared.stage.Owned.TheVariants.{Idle, Frozen, Running,
 use Rattle.vm_law.specs.declared.journal.Entry.{Entry}
 use Rattle.vm_law.specs.declared.journal.Entry.TheVariants.{Claim, Enter, Slice, Step, Exit, Yield}
 use Rattle.vm_law.specs.declared.journal.Signed.{Signed}
-use Rattle.vm_machine.specs.declared.state.Core.{Core}
 use Rattle.vm_machine.specs.declared.state.Why.{Why}
 use Rattle.vm_machine.specs.declared.state.Why.TheVariants.{Stopped, Finished}
 use Rattle.vm_machine.specs.declared.state.Why.TheVariants as why
@@ -21,10 +20,11 @@ use Rattle.vm_law.specs.declared.context.Stop.TheVariants.{Fetch}
 use Rattle.vm_machine.specs.Stepping.{Outcome, performed, undefined, stopped}
 use Rattle.vm_machine.specs.Fetching.{next_of, is_local_next}
 use Rattle.vm_machine.specs.Slices.{stepped_by}
-use Rattle.vm_machine.specs.State.{cpu_at, seat_at}
+use Rattle.vm_machine.specs.State.{cpu_at, seat_at, versions_after}
 use Rattle.vm_machine.specs.Owners.{may_claim, after_claim, may_exit, after_exit, may_yield, after_yield}
-use Rattle.vm_machine.specs.Running.{open_grants, may_enter, after_enter, spent, may_slice, after_slice, may_step, outcome_of, settled_by, settled, after_step}
-use Rattle.vm_machine.specs.Table.{State, allowed, lawful, effect, counted, after}
+use Rattle.vm_machine.specs.Running.{open_grants, may_enter, after_enter, spent, may_slice, after_slice, may_step, outcome_of, settled_by, settled, after_step, has_slice}
+use Rattle.vm_machine.specs.State.{State}
+use Rattle.vm_machine.specs.Table.{allowed, lawful, effect, counted, after}
 use Rattle.vm_machine.specs.History.{after_all}
 use Rattle.vm_machine.specs.Turns.{is_exit_due, grant_of, runner_list, list_of, first_lawful}
 use Rattle.vm_machine.specs.Rounds.{brought_back}
@@ -44,7 +44,7 @@ work_rank (Frozen p) due = 2
 work_rank (Running p) due = if due then 3 else 1
 work_rank (Sleeping p) due = 3
 
-abbrev pub rank : Core → ℕ
+abbrev pub rank : State → ℕ
 rank s =
     if is_some s.ended then (if s.closed then 0 else stage_rank (cpu_at s 0).stage)
     else 10 + 4 * (s.limit - s.executed) + work_rank (cpu_at s 0).stage ((cpu_at s 0).halted || ((seat_at s 0).left == 0))
@@ -134,7 +134,7 @@ enters_full x full =
     skips_it (nat_le 1 (granted x)) (nat_le (granted x) 1024) (nat_le (x.executed + (0 + 0) + granted x) x.limit) (Enter 0 (granted x)) None one
 
 -- the state that an entry of the runner leads to
-abbrev then_core : Single → Entry → Core
+abbrev then_core : Single → Entry → State
 then_core x e = counted (effect (core_of x) 1 e)
 
 -- nothing failed outside
@@ -142,7 +142,7 @@ abbrev pub IsInside : Single → Type 0
 IsInside x = x.ended ≡ Some why.Outside → ⊥
 
 -- where a run goes by its runner's choice: no farther from its end, and nearer to it but where it must wait
-pub record Goes (x : Single) (s : Core) : Type 0 where
+pub record Goes (x : Single) (s : State) : Type 0 where
   pub to : Single
   pub is : s ≡ core_of to
   pub fits : Fits to
@@ -221,7 +221,7 @@ settled_goes x left o None f l =
     let within = f.within in
     let z : (left == 0) ≡ false = grind (arith, nat_tests) in
     record {
-      to = more (record (as_of x running None o.halted (left - 1)) { ctx = o.ctx; ram = o.memory; stayed = true; ran = x.ran + 1; executed = x.executed + 1 });
+      to = more (record (as_of x running None o.halted (left - 1)) { ctx = o.ctx; ram = o.memory; stayed = true; ran = x.ran + 1; executed = x.executed + 1; versions = versions_after x.versions o.memory.code o.stored; console = x.console ++ option_to_list o.output });
       is = refl;
       fits = record { holds = ((λ none. refl), (λ h. refl)); first = f.first; within = omega arith };
       going = refl;
@@ -261,67 +261,63 @@ pub data Waits (x : Single) : Type 0 where
   on_hold : x.stay ≡ frozen → x.ended ≡ None → (x.halted ≡ true) ⊎ (x.executed ≡ x.limit) → Waits x
   at_local : x.stay ≡ running → x.ended ≡ None → x.halted ≡ false → 0 < x.left → is_local_next (next_of (code_in x) x.ctx) ≡ true → Waits x
 
-abbrev pub Moves : Single → Core → Type 0
+abbrev pub Moves : Single → State → Type 0
 Moves x s = Goes x s ⊎ ((s ≡ core_of x) × Waits x)
 
--- the run with what the console received
-abbrev pub state_of : Single → List ℕ → State
-state_of x console = record { core = core_of x; console = console }
-
-pub choice_some : (t : State) (p : ℕ) (e : Entry) → first_lawful t.core p ≡ Some e → (by_choice t p).core ≡ counted (effect t.core p e)
+pub choice_some : (t : State) (p : ℕ) (e : Entry) → first_lawful t p ≡ Some e → (by_choice t p) ≡ counted (effect t p e)
 unfolding after
-choice_some t p e h = ap (λ (o : Option Entry). (after_all t (option_to_list (option_map (λ (e : Entry). signed p e) o))).core) h
+choice_some t p e h = ap (λ (o : Option Entry). (after_all t (option_to_list (option_map (λ (e : Entry). signed p e) o)))) h
 
-pub choice_none : (t : State) (p : ℕ) → first_lawful t.core p ≡ None → (by_choice t p).core ≡ t.core
-choice_none t p h = ap (λ (o : Option Entry). (after_all t (option_to_list (option_map (λ (e : Entry). signed p e) o))).core) h
+pub choice_none : (t : State) (p : ℕ) → first_lawful t p ≡ None → (by_choice t p) ≡ t
+choice_none t p h = ap (λ (o : Option Entry). (after_all t (option_to_list (option_map (λ (e : Entry). signed p e) o)))) h
 
-goes_by : (x : Single) (c : List ℕ) (e : Entry) → first_lawful (core_of x) 1 ≡ Some e → Goes x (then_core x e) → Moves x (by_choice (state_of x c) 1).core
-goes_by x c e h g = inl (subst (λ (s : Core). Goes x s) (sym (choice_some (state_of x c) 1 e h)) g)
+goes_by : (x : Single) (e : Entry) → first_lawful (core_of x) 1 ≡ Some e → Goes x (then_core x e) → Moves x (by_choice (core_of x) 1)
+goes_by x e h g = inl (subst (λ (s : State). Goes x s) (sym (choice_some (core_of x) 1 e h)) g)
 
-waits_by : (x : Single) (c : List ℕ) → first_lawful (core_of x) 1 ≡ None → Waits x → Moves x (by_choice (state_of x c) 1).core
-waits_by x c h w = inr (choice_none (state_of x c) 1 h, w)
+waits_by : (x : Single) → first_lawful (core_of x) 1 ≡ None → Waits x → Moves x (by_choice (core_of x) 1)
+waits_by x h w = inr (choice_none (core_of x) 1 h, w)
 
-runner_frozen : (x : Single) (c : List ℕ) (halted : Bool) → Fits (as_of x frozen None halted 0) → Moves (as_of x frozen None halted 0) (by_choice (state_of (as_of x frozen None halted 0) c) 1).core
-runner_frozen x c true f = waits_by (as_of x frozen None true 0) c (enters_not x) (on_hold refl refl (inl refl))
-runner_frozen x c false f =
+runner_frozen : (x : Single) (halted : Bool) → Fits (as_of x frozen None halted 0) → Moves (as_of x frozen None halted 0) (by_choice (core_of (as_of x frozen None halted 0)) 1)
+runner_frozen x true f = waits_by (as_of x frozen None true 0) (enters_not x) (on_hold refl refl (inl refl))
+runner_frozen x false f =
     elim (cases_lt x.executed x.limit) [
-      | inl room ↦ goes_by (as_of x frozen None false 0) c (Enter 0 (granted x)) (enters x room) (enter_goes x f room)
+      | inl room ↦ goes_by (as_of x frozen None false 0) (Enter 0 (granted x)) (enters x room) (enter_goes x f room)
       | inr full ↦
           let same : x.executed ≡ x.limit = omega (arith, f.within) in
-          waits_by (as_of x frozen None false 0) c (enters_full x same) (on_hold refl refl (inr same))
+          waits_by (as_of x frozen None false 0) (enters_full x same) (on_hold refl refl (inr same))
     ]
 
-runner_working : (x : Single) (c : List ℕ) (left : ℕ) → 0 < left → Fits (as_of x running None false left) → Moves (as_of x running None false left) (by_choice (state_of (as_of x running None false left) c) 1).core
-runner_working x c left l f =
+runner_working : (x : Single) (left : ℕ) → 0 < left → Fits (as_of x running None false left) → Moves (as_of x running None false left) (by_choice (core_of (as_of x running None false left)) 1)
+runner_working x left l f =
     elim (cases_Bool (is_local_next (next_of (code_in x) x.ctx))) [
-      | inl local ↦ waits_by (as_of x running None false left) c (steps_not x left l local) (at_local refl refl refl l local)
-      | inr shared ↦ goes_by (as_of x running None false left) c (Step 0) (steps x left l shared) (step_goes_by x left f l shared)
+      | inl local ↦ waits_by (as_of x running None false left) (steps_not x left l local) (at_local refl refl refl l local)
+      | inr shared ↦ goes_by (as_of x running None false left) (Step 0) (steps x left l shared) (step_goes_by x left f l shared)
     ]
 
-runner_at : (x : Single) (c : List ℕ) (stay : Stay) (ended : Option Why) (halted : Bool) (left : ℕ) → Fits (as_of x stay ended halted left) → Moves (as_of x stay ended halted left) (by_choice (state_of (as_of x stay ended halted left) c) 1).core
-runner_at x c resting None halted left f = goes_by (as_of x resting None halted left) c (Claim 0) (claims x halted left) (claim_goes x halted left f)
-runner_at x c resting (Some w) halted left f = waits_by (as_of x resting (Some w) halted left) c (rests_ended x w halted left) (at_rest refl refl)
-runner_at x c frozen (Some w) halted left f = goes_by (as_of x frozen (Some w) halted left) c (Yield 0) (yields_ended x w halted left) (yield_goes x w halted left f)
-runner_at x c running (Some w) halted left f = goes_by (as_of x running (Some w) halted left) c (Exit 0) (exits_ended x w halted x.stayed left) (exit_goes_over x w halted x.stayed left f)
-runner_at x c frozen None halted left f =
-    let P : ℕ → Type 0 = λ l. Fits (as_of x frozen None halted l) → Moves (as_of x frozen None halted l) (by_choice (state_of (as_of x frozen None halted l) c) 1).core in
-    subst P (sym f.holds) (runner_frozen x c halted) f
-runner_at x c running None true left f = goes_by (as_of x running None true left) c (Exit 0) (exits_halted x left (f.holds.1 refl)) (exit_goes x true x.stayed left f refl)
-runner_at x c running None false left f =
+runner_at : (x : Single) (stay : Stay) (ended : Option Why) (halted : Bool) (left : ℕ) → Fits (as_of x stay ended halted left) → Moves (as_of x stay ended halted left) (by_choice (core_of (as_of x stay ended halted left)) 1)
+runner_at x resting None halted left f = goes_by (as_of x resting None halted left) (Claim 0) (claims x halted left) (claim_goes x halted left f)
+runner_at x resting (Some w) halted left f = waits_by (as_of x resting (Some w) halted left) (rests_ended x w halted left) (at_rest refl refl)
+runner_at x frozen (Some w) halted left f = goes_by (as_of x frozen (Some w) halted left) (Yield 0) (yields_ended x w halted left) (yield_goes x w halted left f)
+runner_at x running (Some w) halted left f = goes_by (as_of x running (Some w) halted left) (Exit 0) (exits_ended x w halted x.stayed left) (exit_goes_over x w halted x.stayed left f)
+runner_at x frozen None halted left f =
+    let P : ℕ → Type 0 = λ l. Fits (as_of x frozen None halted l) → Moves (as_of x frozen None halted l) (by_choice (core_of (as_of x frozen None halted l)) 1) in
+    subst P (sym f.holds) (runner_frozen x halted) f
+runner_at x running None true left f = goes_by (as_of x running None true left) (Exit 0) (exits_halted x left (f.holds.1 refl)) (exit_goes x true x.stayed left f refl)
+runner_at x running None false left f =
     elim (cases_lt 0 left) [
-      | inl some ↦ runner_working x c left some f
+      | inl some ↦ runner_working x left some f
       | inr none ↦
           let z : left ≡ 0 = omega arith in
-          let P : ℕ → Type 0 = λ l. Fits (as_of x running None false l) → Moves (as_of x running None false l) (by_choice (state_of (as_of x running None false l) c) 1).core in
-          subst P (sym z) (λ g. goes_by (as_of x running None false 0) c (Exit 0) (exits_spent x false (g.holds.0 refl)) (exit_goes x false x.stayed 0 g refl)) f
+          let P : ℕ → Type 0 = λ l. Fits (as_of x running None false l) → Moves (as_of x running None false l) (by_choice (core_of (as_of x running None false l)) 1) in
+          subst P (sym z) (λ g. goes_by (as_of x running None false 0) (Exit 0) (exits_spent x false (g.holds.0 refl)) (exit_goes x false x.stayed 0 g refl)) f
     ]
 
 -- the runner goes on, or waits
-pub runner_moves : (x : Single) (t : State) → t.core ≡ core_of x → Fits x → x.closed ≡ false → Moves x (by_choice t 1).core
+pub runner_moves : (x : Single) (t : State) → t ≡ core_of x → Fits x → x.closed ≡ false → Moves x (by_choice t 1)
 runner_moves x t is f going =
-    let P : Bool → Type 0 = λ b. Fits (record x { closed = b }) → Moves (record x { closed = b }) (by_choice (state_of (record x { closed = b }) t.console) 1).core in
-    let here : Moves x (by_choice (state_of x t.console) 1).core = subst P (sym going) (runner_at x t.console x.stay x.ended x.halted x.left) f in
-    subst (λ (s : Core). Moves x (by_choice (record { core = s; console = t.console }) 1).core) (sym is) here
+    let P : Bool → Type 0 = λ b. Fits (record x { closed = b }) → Moves (record x { closed = b }) (by_choice (core_of (record x { closed = b })) 1) in
+    let here : Moves x (by_choice (core_of x) 1) = subst P (sym going) (runner_at x x.stay x.ended x.halted x.left) f in
+    subst (λ (s : State). Moves x (by_choice s 1)) (sym is) here
 
 -- what a lawful Slice tells
 pub record Slices (x : Single) (n : ℕ) : Type 0 where
@@ -332,7 +328,7 @@ pub record Slices (x : Single) (n : ℕ) : Type 0 where
   pub going : x.closed ≡ false
 
 slice_at : (x : Single) (stay : Stay) (halted closed : Bool) (n : ℕ) → lawful (core_of (record x { stay = stay; halted = halted; closed = closed })) 1 (Slice 0 n) ≡ true → Slices (record x { stay = stay; halted = halted; closed = closed }) n
-unfolding lawful allowed may_slice
+unfolding lawful allowed may_slice has_slice
 slice_at x resting halted false n h = absurd (cc)
 slice_at x frozen halted false n h = absurd (cc)
 slice_at x running true false n h = absurd (cc)
@@ -349,7 +345,7 @@ pub slice_tells : (x : Single) (n : ℕ) → lawful (core_of x) 1 (Slice 0 n) �
 slice_tells x n h = slice_at x x.stay x.halted x.closed n h
 
 -- where a run goes by a Slice
-pub record Slides (x : Single) (s : Core) : Type 0 where
+pub record Slides (x : Single) (s : State) : Type 0 where
   pub to : Single
   pub is : s ≡ core_of to
   pub fits : Fits to
@@ -401,7 +397,7 @@ slides x n h f =
     subst P (sym t.works) (subst Q (sym t.awake) (subst R (sym t.going) (slide_at x x.ended n t.some t.most))) f
 
 -- where a run goes by its runner's turn
-pub record Returns (x : Single) (n : ℕ) (s : Core) : Type 0 where
+pub record Returns (x : Single) (n : ℕ) (s : State) : Type 0 where
   pub to : Single
   pub is : s ≡ core_of to
   pub fits : Fits to
@@ -410,7 +406,7 @@ pub record Returns (x : Single) (n : ℕ) (s : Core) : Type 0 where
   pub inside : IsInside x → IsInside to
   pub near : (rank (core_of to) < rank (core_of x)) ⊎ ((n ≡ 0) × (to ≡ x) × Waits x)
 
-returns_none : (x : Single) (s : Core) → Fits x → x.closed ≡ false → Moves x s → Returns x 0 s
+returns_none : (x : Single) (s : State) → Fits x → x.closed ≡ false → Moves x s → Returns x 0 s
 returns_none x s f going (inl g) = record { to = g.to; is = g.is; fits = g.fits; going = g.going; over = g.over; inside = g.inside; near = inl g.less }
 returns_none x s f going (inr w) = record { to = x; is = w.0; fits = f; going = going; over = λ h. h; inside = λ h. h; near = inr (refl, refl, w.1) }
 
@@ -423,7 +419,7 @@ works_on x s (at_rest r e) = absurd (cc)
 works_on x s (on_hold h e c) = absurd (cc)
 works_on x s (at_local r e h l n) = e
 
-returns_some : (x : Single) (m : ℕ) (s s2 : Core) (g : Slides x s) → Moves g.to s2 → Returns x (suc m) s2
+returns_some : (x : Single) (m : ℕ) (s s2 : State) (g : Slides x s) → Moves g.to s2 → Returns x (suc m) s2
 returns_some x m s s2 g (inl h) = record {
   to = h.to;
   is = h.is;
@@ -443,14 +439,14 @@ returns_some x m s s2 g (inr w) = record {
   near = inl (g.less (sym g.ended ∙ works_on g.to g.works w.1));
 }
 
-pub after_slice_core : (t : State) (n : ℕ) → (after_all t (brought_back 0 (suc n))).core ≡ counted (effect t.core 1 (Slice 0 (suc n)))
+pub after_slice_core : (t : State) (n : ℕ) → (after_all t (brought_back 0 (suc n))) ≡ counted (effect t 1 (Slice 0 (suc n)))
 unfolding after
 after_slice_core t n = refl
 
-pub runner_returns : (x : Single) (t : State) (n : ℕ) → t.core ≡ core_of x → Fits x → x.closed ≡ false → (0 < n → lawful (core_of x) 1 (Slice 0 n) ≡ true) → Returns x n (by_return t n).core
-runner_returns x t zero is f going may = returns_none x (by_return t zero).core f going (runner_moves x t is f going)
+pub runner_returns : (x : Single) (t : State) (n : ℕ) → t ≡ core_of x → Fits x → x.closed ≡ false → (0 < n → lawful (core_of x) 1 (Slice 0 n) ≡ true) → Returns x n (by_return t n)
+runner_returns x t zero is f going may = returns_none x (by_return t zero) f going (runner_moves x t is f going)
 runner_returns x t (suc m) is f going may =
     let g = slides x (suc m) (may (omega arith)) f in
-    let there : (after_all t (brought_back 0 (suc m))).core ≡ core_of g.to =
-    after_slice_core t m ∙ ap (λ (s : Core). counted (effect s 1 (Slice 0 (suc m)))) is ∙ g.is in
-    returns_some x m (then_core x (Slice 0 (suc m))) (by_return t (suc m)).core g (runner_moves g.to (after_all t (brought_back 0 (suc m))) there g.fits g.going)
+    let there : (after_all t (brought_back 0 (suc m))) ≡ core_of g.to =
+    after_slice_core t m ∙ ap (λ (s : State). counted (effect s 1 (Slice 0 (suc m)))) is ∙ g.is in
+    returns_some x m (then_core x (Slice 0 (suc m))) (by_return t (suc m)) g (runner_moves g.to (after_all t (brought_back 0 (suc m))) there g.fits g.going)

@@ -1,135 +1,155 @@
 -- What commands answer, what they keep, and what they leave outside.
-use Rattle.std.specs.Prelude.{◌≡◌, ◌≢◌, ◌⊎◌, ℕ, Bool, true, List, [], ◌∷◌, take, Option, Some, None, IfSome}
+use Rattle.std.specs.Prelude.{◌≡◌, ◌≢◌, ◌⊎◌, ℕ, true, List, [], ◌∷◌, take, Option, Some, None}
 use Rattle.vm_law.specs.declared.journal.Signed.{Signed}
 use Rattle.vm_host.specs.Told.{WhereTold}
-use Rattle.vm_host.specs.Files.{LeavesOthers}
+use Rattle.vm_host.specs.Leaves.{ReadsHost, WritesFile, LeavesSink, Takes, TakesSome}
+use Rattle.vm_host.specs.Views.{HostView, SinkView}
 use Rattle.vm_journal.specs.Spelling.{spelling}
 use Rattle.vm_journal.specs.Replaying.{IsFirstBad}
 use Rattle.vm_machine.specs.declared.start.Start.{Start}
 use Rattle.vm_machine.specs.declared.state.Why.{Why}
 use Rattle.vm_machine.specs.declared.state.Why.TheVariants as why
-use Rattle.vm_machine.specs.History.{IsLegal, console_of, why_ended, is_closed}
+use Rattle.vm_machine.specs.History.{IsLegal, last_state, console_of, why_ended, is_closed}
 use Rattle.vm_machine.specs.Rounds.{IsSolo}
+use Rattle.vm_machine.specs.Turns.{IsOrderly}
 use Rattle.vm_run.specs.declared.command.Command.{Command}
 use Rattle.vm_run.specs.declared.command.Command.TheVariants.{Solo, Replay}
 use Rattle.vm_run.specs.declared.outcome.Kept.{Kept}
-use Rattle.vm_run.specs.Ends.{HasStatus}
+use Rattle.vm_run.specs.Cut.{IsCutOff}
+use Rattle.vm_run.specs.Ends.{HasStatus, IsNamed}
 use Rattle.vm_run.specs.Files.{IsJournal, IsFileOf, IsRefused}
-use Rattle.vm_run.specs.Played.{TookAll, TookSome}
 use Rattle.vm_run.specs.Starting.{IsStart}
 use Rattle.vm_run.specs.Words.{IsTwice}
 
--- What stood outside when a command began, and stands there after it: the files by their names, where the host tells
--- them, and the bytes that the console took, where it tells them.
-pub record Outside : Type 0 where
-  pub told : Bool
-  pub files : List ℕ → Option (List ℕ)
-  pub files_now : List ℕ → Option (List ℕ)
-  pub heard : Bool
-  pub taken : List ℕ
-  pub taken_now : List ℕ
+-- What stands outside when a command begins, and after it: a host and a console.
+pub record Outside : Type 1 where
+  pub host : HostView
+  pub host_now : HostView
+  pub console : SinkView
+  pub console_now : SinkView
 
-abbrev pub outside : Bool → (List ℕ → Option (List ℕ)) → (List ℕ → Option (List ℕ)) → Bool → List ℕ → List ℕ → Outside
-outside told files files_now heard taken taken_now =
-    record { told = told; files = files; files_now = files_now; heard = heard; taken = taken; taken_now = taken_now }
+abbrev pub outside : HostView → HostView → SinkView → SinkView → Outside
+outside host host_now console console_now = record { host = host; host_now = host_now; console = console; console_now = console_now }
 
--- the console took all that the guest of a history sent; a first part of it; nothing
-abbrev pub WroteAll : Outside → Kept → Type 0
-WroteAll o k = TookAll o.heard o.taken o.taken_now (console_of k.start k.journal)
+-- A run that is kept: it began at the start of the image's file, its journal is a history from there, and it is the state
+-- after that.
+pub record IsRunOf (host : HostView) (image : List ℕ) (k : Kept) : Type 0 where
+  pub start : IsFileOf host.tells (host.file image) IsStart k.start
+  pub legal : IsLegal k.start k.journal
+  pub last : k.run.state ≡ last_state k.start k.journal
 
-abbrev pub WroteSome : Outside → Kept → Type 0
-WroteSome o k = TookSome o.heard o.taken o.taken_now (console_of k.start k.journal)
+-- The same of a start that is known.
+pub record IsRunFrom (first : Start) (k : Kept) : Type 0 where
+  pub start : k.start ≡ first
+  pub legal : IsLegal k.start k.journal
+  pub last : k.run.state ≡ last_state k.start k.journal
 
-abbrev pub IsSilent : Outside → Type 0
-IsSilent o = WhereTold o.heard (o.taken_now ≡ o.taken)
+-- the guest's bytes in a history
+abbrev pub sent_in : Kept → List ℕ
+sent_in k = console_of k.start k.journal
 
--- the run came to its end by the rounds of one thread, closed, and all that it sent was written
+-- the run came to its end by the rounds of one thread, closed, and the console took all that it sent
 pub record Ran (o : Outside) (k : Kept) : Type 0 where
   pub solo : IsSolo k.start k.journal
   pub closed : is_closed k.start k.journal ≡ true
   pub no_fault : why_ended k.start k.journal ≢ Some why.Outside
-  pub wrote : WroteAll o k
+  pub wrote : Takes (sent_in k) o.console o.console_now
 
 -- the journal stands in its file, if it was to be written to one
-abbrev pub IsSaved : Bool → (List ℕ → Option (List ℕ)) → Option (List ℕ) → List Signed → Type 0
-IsSaved told files None history = Unit {0}
-IsSaved told files (Some name) history = WhereTold told (files name ≡ Some (spelling history))
-
--- no file but the journal's changed
-abbrev pub ChangesOnly : Bool → (List ℕ → Option (List ℕ)) → (List ℕ → Option (List ℕ)) → Option (List ℕ) → Type 0
-ChangesOnly told before now None = WhereTold told (now ≡ before)
-ChangesOnly told before now (Some name) = WhereTold told (LeavesOthers name before now)
+abbrev pub IsSaved : HostView → HostView → Option (List ℕ) → List Signed → Type 0
+IsSaved old new None history = Unit {0}
+IsSaved old new (Some name) history = WhereTold old.tells (new.file name ≡ Some (spelling history))
 
 -- what a run that began answers and keeps, where its journal is to be written to a file of this name
 pub data RunAnswers (o : Outside) (journal : Option (List ℕ)) (status : ℕ) (kept : Option Kept) : Type 0 where
   -- it came to its end
   ran : (k : Kept) → kept ≡ Some k → Ran o k → (why : Why) → why_ended k.start k.journal ≡ Some why → HasStatus why status
-      → IsSaved o.told o.files_now journal k.journal → RunAnswers o journal status kept
+      → IsSaved o.host o.host_now journal k.journal → RunAnswers o journal status kept
   -- it did, and the host refused its journal
-  unsaved : (k : Kept) → kept ≡ Some k → Ran o k → status ≡ 6 → RunAnswers o journal status kept
+  unsaved : (k : Kept) → kept ≡ Some k → Ran o k → (name : List ℕ) → journal ≡ Some name → IsNamed name o.host_now → status ≡ 6
+      → RunAnswers o journal status kept
   -- the console refused what the guest sent
-  unwritten : (k : Kept) → kept ≡ Some k → is_closed k.start k.journal ≡ true → WroteSome o k → status ≡ 9 → RunAnswers o journal status kept
+  unwritten : (k : Kept) → kept ≡ Some k → is_closed k.start k.journal ≡ true → IsCutOff k.start k.journal o.console o.console_now → status ≡ 9
+      → RunAnswers o journal status kept
   -- memory is out
-  spent : IfSome kept (WroteSome o) → status ≡ 71 → RunAnswers o journal status kept
+  spent : status ≡ 71 → RunAnswers o journal status kept
 
 -- what `solo` answers and keeps, of a file of this name and, if one is named, a journal's
 pub data SoloAnswers (o : Outside) (image : List ℕ) (journal : Option (List ℕ)) (status : ℕ) (kept : Option Kept) : Type 0 where
   -- the run began
   began : RunAnswers o journal status kept → SoloAnswers o image journal status kept
-  -- the file gives no start, or is named twice
-  refused : kept ≡ None → IsTwice (Solo image journal) ⊎ IsRefused o.told (o.files image) IsStart → status ≡ 3 → SoloAnswers o image journal status kept
+  -- the file gives no start
+  refused : kept ≡ None → IsRefused o.host.tells (o.host.file image) IsStart → status ≡ 3 → SoloAnswers o image journal status kept
+  -- it gives one, and is named twice
+  twice : kept ≡ None → IsTwice (Solo image journal) → (start : Start) → IsFileOf o.host.tells (o.host.file image) IsStart start → status ≡ 3
+      → SoloAnswers o image journal status kept
   -- there is no such file
-  missing : kept ≡ None → WhereTold o.told (o.files image ≡ None) → status ≡ 7 → SoloAnswers o image journal status kept
+  missing : kept ≡ None → WhereTold o.host.tells (o.host.file image ≡ None) → status ≡ 7 → SoloAnswers o image journal status kept
   -- the host refused to read it
-  unread : kept ≡ None → status ≡ 6 → SoloAnswers o image journal status kept
+  unread : kept ≡ None → IsNamed image o.host_now → status ≡ 6 → SoloAnswers o image journal status kept
 
--- what the replay of a history answers and keeps, and what the console took before it and has taken after it
-pub data HistoryAnswers (heard : Bool) (taken taken_now : List ℕ) (history : List Signed) (status : ℕ) (kept : Option Kept) : Type 0 where
+-- what the replay of a history answers and keeps
+pub data HistoryAnswers (old new : SinkView) (history : List Signed) (status : ℕ) (kept : Option Kept) : Type 0 where
   -- it was replayed
-  replayed : (k : Kept) → kept ≡ Some k → k.journal ≡ history → TookAll heard taken taken_now (console_of k.start k.journal) → status ≡ 0
-      → HistoryAnswers heard taken taken_now history status kept
+  replayed : (k : Kept) → kept ≡ Some k → k.journal ≡ history → Takes (sent_in k) old new → status ≡ 0 → HistoryAnswers old new history status kept
   -- it was, and the console refused what its guest sent
-  unwritten : (k : Kept) → kept ≡ Some k → k.journal ≡ history → TookSome heard taken taken_now (console_of k.start k.journal) → status ≡ 9
-      → HistoryAnswers heard taken taken_now history status kept
+  unwritten : (k : Kept) → kept ≡ Some k → k.journal ≡ history → TakesSome (sent_in k) old new → status ≡ 9 → HistoryAnswers old new history status kept
   -- what stands before its first entry that isn't lawful was replayed
-  unlawful : (k : Kept) (at : ℕ) → kept ≡ Some k → IsFirstBad k.start history at → k.journal ≡ take at history → WhereTold heard (taken_now ≡ taken) → status ≡ 3
-      → HistoryAnswers heard taken taken_now history status kept
+  unlawful : (k : Kept) (at : ℕ) → kept ≡ Some k → IsFirstBad k.start history at → k.journal ≡ take at history → LeavesSink old new → status ≡ 3
+      → HistoryAnswers old new history status kept
   -- memory is out
-  spent : WhereTold heard (taken_now ≡ taken) → status ≡ 71 → HistoryAnswers heard taken taken_now history status kept
+  spent : status ≡ 71 → HistoryAnswers old new history status kept
 
 -- what the replay of a journal's file answers and keeps
 pub data JournalAnswers (o : Outside) (journal : List ℕ) (status : ℕ) (kept : Option Kept) : Type 0 where
   -- the file is that of a journal
-  read : (history : List Signed) → IsFileOf o.told (o.files journal) IsJournal history → HistoryAnswers o.heard o.taken o.taken_now history status kept → JournalAnswers o journal status kept
+  read : (history : List Signed) → IsFileOf o.host.tells (o.host.file journal) IsJournal history → HistoryAnswers o.console o.console_now history status kept
+      → JournalAnswers o journal status kept
   -- its bytes spell none, and nothing was replayed
-  unspelled : (k : Kept) → kept ≡ Some k → k.journal ≡ [] → IsRefused o.told (o.files journal) IsJournal → IsSilent o → status ≡ 3 → JournalAnswers o journal status kept
+  unspelled : (k : Kept) → kept ≡ Some k → k.journal ≡ [] → IsRefused o.host.tells (o.host.file journal) IsJournal → LeavesSink o.console o.console_now → status ≡ 3
+      → JournalAnswers o journal status kept
   -- there is no such file
-  absent : (k : Kept) → kept ≡ Some k → k.journal ≡ [] → WhereTold o.told (o.files journal ≡ None) → IsSilent o → status ≡ 7 → JournalAnswers o journal status kept
+  absent : (k : Kept) → kept ≡ Some k → k.journal ≡ [] → WhereTold o.host.tells (o.host.file journal ≡ None) → LeavesSink o.console o.console_now → status ≡ 7
+      → JournalAnswers o journal status kept
   -- the host refused to read it
-  unread : (k : Kept) → kept ≡ Some k → k.journal ≡ [] → IsSilent o → status ≡ 6 → JournalAnswers o journal status kept
+  unread : (k : Kept) → kept ≡ Some k → k.journal ≡ [] → IsNamed journal o.host_now → LeavesSink o.console o.console_now → status ≡ 6
+      → JournalAnswers o journal status kept
   -- memory is out
-  spent : IsSilent o → status ≡ 71 → JournalAnswers o journal status kept
+  spent : status ≡ 71 → JournalAnswers o journal status kept
 
 -- what `replay` answers and keeps, of files of these names
 pub data ReplayAnswers (o : Outside) (image journal : List ℕ) (status : ℕ) (kept : Option Kept) : Type 0 where
   -- the file gives a start
   began : JournalAnswers o journal status kept → ReplayAnswers o image journal status kept
-  -- it gives none, or is named twice
-  refused : kept ≡ None → IsTwice (Replay image journal) ⊎ IsRefused o.told (o.files image) IsStart → status ≡ 3 → ReplayAnswers o image journal status kept
+  -- it gives none
+  refused : kept ≡ None → IsRefused o.host.tells (o.host.file image) IsStart → status ≡ 3 → ReplayAnswers o image journal status kept
+  -- it gives one, and is named twice
+  twice : kept ≡ None → IsTwice (Replay image journal) → (start : Start) → IsFileOf o.host.tells (o.host.file image) IsStart start → status ≡ 3
+      → ReplayAnswers o image journal status kept
   -- there is no such file
-  missing : kept ≡ None → WhereTold o.told (o.files image ≡ None) → status ≡ 7 → ReplayAnswers o image journal status kept
+  missing : kept ≡ None → WhereTold o.host.tells (o.host.file image ≡ None) → status ≡ 7 → ReplayAnswers o image journal status kept
   -- the host refused to read it
-  unread : kept ≡ None → status ≡ 6 → ReplayAnswers o image journal status kept
+  unread : kept ≡ None → IsNamed image o.host_now → status ≡ 6 → ReplayAnswers o image journal status kept
 
 -- what a command answers and keeps
 abbrev pub Answers : Command → Outside → ℕ → Option Kept → Type 0
 Answers (Solo image journal) o status kept = SoloAnswers o image journal status kept
 Answers (Replay image journal) o status kept = ReplayAnswers o image journal status kept
 
--- what a command may change among the files
-abbrev pub Changes : Command → Bool → (List ℕ → Option (List ℕ)) → (List ℕ → Option (List ℕ)) → Type 0
-Changes (Solo image journal) told before now = ChangesOnly told before now journal
-Changes (Replay image journal) told before now = WhereTold told (now ≡ before)
+-- a history of `solo` is what passes add in orderly turns
+abbrev pub IsOrderlyOf : Command → Kept → Type 0
+IsOrderlyOf (Solo image journal) k = IsOrderly k.start k.journal
+IsOrderlyOf (Replay image journal) k = Unit {0}
+
+-- no file but the journal's changed
+abbrev pub ChangesOnly : Option (List ℕ) → HostView → HostView → Type 0
+ChangesOnly None old new = ReadsHost old new
+ChangesOnly (Some name) old new = WritesFile name old new
+
+-- what a command may change among the files: where it keeps nothing, none
+abbrev pub Changes : Command → HostView → HostView → Type 0
+Changes (Solo image journal) old new = ChangesOnly journal old new
+Changes (Replay image journal) old new = ReadsHost old new
 
 -- the files give what the command asks for
 abbrev pub CanDo : (List ℕ → Option (List ℕ)) → Command → Type 0

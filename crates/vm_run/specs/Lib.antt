@@ -1,9 +1,9 @@
 pub mod Actors
 pub mod Answer
 pub mod Closing
+pub mod Cut
 pub mod Ends
 pub mod Files
-pub mod Played
 pub mod Reading
 pub mod Single
 pub mod Starting

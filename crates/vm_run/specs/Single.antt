@@ -5,8 +5,8 @@ use Rattle.vm_law.specs.declared.context.Ctx.{Ctx}
 use Rattle.vm_law.specs.declared.script.Order.TheVariants.{WaitQuiet}
 use Rattle.vm_law.specs.declared.stage.Owned.{Owned}
 use Rattle.vm_law.specs.declared.stage.Owned.TheVariants.{Idle, Frozen, Running}
-use Rattle.vm_machine.specs.declared.state.Core.{Core}
 use Rattle.vm_machine.specs.declared.state.Why.{Why}
+use Rattle.vm_machine.specs.State.{State}
 
 -- the vCPU is idle, or owned by its runner
 pub data Stay : Type 0 where
@@ -28,10 +28,12 @@ pub record Single : Type 0 where
   pub left : ℕ
   pub stayed : Bool
   pub ran : ℕ
+  pub versions : List ℕ
   pub executed : ℕ
   pub limit : ℕ
   pub entries : ℕ
   pub place : ℕ
+  pub console : List ℕ
   pub ended : Option Why
   pub closed : Bool
 
@@ -40,7 +42,7 @@ abbrev pub code_in : Single → List ℕ
 code_in x = code_of x.ram
 
 -- the run: no pause is wished, and no rendezvous is open
-abbrev pub core_of : Single → Core
+abbrev pub core_of : Single → State
 core_of x = record {
   machine = record {
     cpus = record { stage = stage_of x.stay; ctx = x.ctx; started = true; halted = x.halted } ∷ [];
@@ -49,11 +51,13 @@ core_of x = record {
     meet = None;
   };
   seats = record { left = x.left; stayed = x.stayed; ran = x.ran } ∷ [];
+  versions = x.versions;
   executed = x.executed;
   limit = x.limit;
   entries = x.entries;
   script = WaitQuiet ∷ [];
   place = x.place;
+  console = x.console;
   ended = x.ended;
   closed = x.closed;
 }
@@ -71,7 +75,7 @@ pub record Fits (x : Single) : Type 0 where
   pub within : x.executed + x.left ≤ x.limit
 
 -- the run is one of a single vCPU
-pub record IsSingle (s : Core) : Type 0 where
+pub record IsSingle (s : State) : Type 0 where
   pub one : Single
   pub is : s ≡ core_of one
   pub fits : Fits one

@@ -1,5 +1,5 @@
 //! The actors of a machine with one vCPU: control, and the vCPU's runner. Each adds to the history what it chooses.
-ghost use Rattle.std.specs.Prelude.{◌≡◌, ◌≤◌, ◌<◌, ◌+◌, true, false, [], ◌∷◌, ◌++◌, length, IsTrue, IfOk, IfSome, OnOk, is_some};
+ghost use Rattle.std.specs.Prelude.{◌≡◌, ◌≤◌, ◌<◌, ◌+◌, true, false, [], ◌∷◌, ◌++◌, length, IsTrue, IfOk, IfSome, OnOk, Some, is_some};
 ghost use Rattle.std.specs.List.{find};
 ghost use Rattle.vm_machine.specs.State as state;
 ghost use Rattle.vm_machine.specs.Slices.{LocalRun};
@@ -8,12 +8,13 @@ ghost use Rattle.vm_machine.specs.Table.{lawful, after};
 ghost use Rattle.vm_machine.specs.History.{after_all};
 ghost use Rattle.vm_machine.specs.Turns as turns;
 ghost use Rattle.vm_machine.specs.Rounds as rounds;
-ghost use Rattle.vm_run.specs.Actors.{room_in, Continues, IsAway, by_choice, by_return, returned};
+ghost use Rattle.vm_run.specs.Actors.{room_in, Continues, IsAway, WindsDown, by_choice, by_return, returned};
+ghost use Rattle.vm_run.specs.Cut.{or_outside};
 ghost use Rattle.vm_run.specs.Single.{IsSingle};
 
 use std::alloc::Global;
 use vm_law::{Ctx, EndCause, Entry, OutOfMemory, Owned, Signed};
-use vm_machine::{Run, Start, run_slice};
+use vm_machine::{Run, Start};
 
 /// Instructions that the runner ran outside the machine, and the registers after them.
 #[derive(Clone, Copy, Debug)]
@@ -31,8 +32,8 @@ pub(crate) struct Playing {
 
 /// The first entry of a list that is lawful for the pass.
 fn first_lawful(run: &Run, by: u16, list: &[Entry]) -> Option<Entry>
-    ensures first { result ≡ find (λ e. lawful run.now.state.core by e) list.now }
-    ensures may { IfSome result (λ e. IsTrue (lawful run.now.state.core by e)) }
+    ensures first { result ≡ find (λ e. lawful run.now.state by e) list.now }
+    ensures may { IfSome result (λ e. IsTrue (lawful run.now.state by e)) }
 {
     list.iter().copied().find(|entry| run.may(by, entry))
 }
@@ -63,7 +64,7 @@ impl Playing {
 
     /// Adds a lawful entry and makes its step.
     pub(crate) fn add(&mut self, by: u16, entry: Entry)
-        requires may { IsTrue (lawful self.old.run.state.core by entry) }
+        requires may { IsTrue (lawful self.old.run.state by entry) }
         requires room { 1 ≤ room_in self.old }
         ensures state { self.new.run.state ≡ after self.old.run.state (record { by = by; entry = entry }) }
         ensures history { self.new.entries.items ≡ self.old.entries.items ++ (record { by = by; entry = entry }) ∷ [] }
@@ -75,10 +76,10 @@ impl Playing {
 
     /// Adds the first entry of the pass's list that is lawful, where there is one.
     fn choose(&mut self, by: u16, list: &[Entry])
-        requires list { list.now ≡ turns.list_of self.old.run.state.core by }
+        requires list { list.now ≡ turns.list_of self.old.run.state by }
         requires room { 1 ≤ room_in self.old }
-        ensures state { self.new.run.state ≡ after_all self.old.run.state (rounds.chosen self.old.run.state.core by) }
-        ensures history { self.new.entries.items ≡ self.old.entries.items ++ rounds.chosen self.old.run.state.core by }
+        ensures state { self.new.run.state ≡ after_all self.old.run.state (rounds.chosen self.old.run.state by) }
+        ensures history { self.new.entries.items ≡ self.old.entries.items ++ rounds.chosen self.old.run.state by }
         ensures room { room_in self.old ≤ room_in self.new + 1 }
     {
         if let Some(entry) = first_lawful(&self.run, by, list) {
@@ -88,15 +89,15 @@ impl Playing {
 
     /// Control's turn.
     pub(crate) fn control_turn(&mut self)
-        requires single { IsSingle self.old.run.state.core }
-        requires going { self.old.run.state.core.closed ≡ false }
+        requires single { IsSingle self.old.run.state }
+        requires going { self.old.run.state.closed ≡ false }
         requires room { 1 ≤ room_in self.old }
         ensures state { self.new.run.state ≡ by_choice self.old.run.state 0 }
-        ensures history { self.new.entries.items ≡ self.old.entries.items ++ rounds.chosen self.old.run.state.core 0 }
+        ensures history { self.new.entries.items ≡ self.old.entries.items ++ rounds.chosen self.old.run.state 0 }
         ensures room { room_in self.old ≤ room_in self.new + 1 }
-        ensures single { IsSingle self.new.run.state.core }
-        ensures machine { self.new.run.state.core.machine ≡ self.old.run.state.core.machine }
-        ensures seats { self.new.run.state.core.seats ≡ self.old.run.state.core.seats }
+        ensures single { IsSingle self.new.run.state }
+        ensures machine { self.new.run.state.machine ≡ self.old.run.state.machine }
+        ensures seats { self.new.run.state.seats ≡ self.old.run.state.seats }
         ensures continues { Continues self.old self.new }
     {
         let list = [
@@ -120,8 +121,8 @@ impl Playing {
     /// Whether the vCPU is to be frozen, where it runs.
     #[tactic(auto, unfolding(vm_machine::specs::Turns::is_exit_due))]
     fn is_exit_due(&self) -> bool
-        requires { length self.now.run.state.core.machine.cpus ≡ 1 }
-        ensures { result ≡ turns.is_exit_due self.now.run.state.core 0 }
+        requires { length self.now.run.state.machine.cpus ≡ 1 }
+        ensures { result ≡ turns.is_exit_due self.now.run.state 0 }
     {
         let machine = self.run.machine();
         machine.meet.is_some()
@@ -133,10 +134,10 @@ impl Playing {
 
     /// What the runner chooses in its turn.
     fn runner_choice(&mut self)
-        requires one { length self.old.run.state.core.machine.cpus ≡ 1 }
+        requires one { length self.old.run.state.machine.cpus ≡ 1 }
         requires room { 1 ≤ room_in self.old }
-        ensures state { self.new.run.state ≡ after_all self.old.run.state (rounds.chosen self.old.run.state.core 1) }
-        ensures history { self.new.entries.items ≡ self.old.entries.items ++ rounds.chosen self.old.run.state.core 1 }
+        ensures state { self.new.run.state ≡ after_all self.old.run.state (rounds.chosen self.old.run.state 1) }
+        ensures history { self.new.entries.items ≡ self.old.entries.items ++ rounds.chosen self.old.run.state 1 }
         ensures room { room_in self.old ≤ room_in self.new + 1 }
     {
         let grant = self.run.room().min(1024) as u16;
@@ -161,7 +162,7 @@ impl Playing {
 
     /// What the runner ran outside comes back.
     fn bring_back(&mut self, away: Away)
-        requires away { IsAway self.old.run.state.core away }
+        requires away { IsAway self.old.run.state away }
         requires room { 1 ≤ room_in self.old }
         ensures state { self.new.run.state ≡ after_all self.old.run.state (rounds.brought_back 0 away.count) }
         ensures history { self.new.entries.items ≡ self.old.entries.items ++ rounds.brought_back 0 away.count }
@@ -180,31 +181,32 @@ impl Playing {
     /// The runner's work outside: as many local instructions as its grant allows.
     #[tactic(auto, unfolding(vm_machine::specs::Rounds::run_outside))]
     pub(crate) fn go_out(&self) -> Away
-        requires { length self.now.run.state.core.machine.cpus ≡ 1 }
-        ensures count { result.count ≡ rounds.run_outside self.now.run.state.core 0 }
-        ensures ran { LocalRun (state.code_of self.now.run.state.core.machine)
-            (state.cpu_at self.now.run.state.core 0).ctx result.count result.ctx }
+        requires { length self.now.run.state.machine.cpus ≡ 1 }
+        ensures count { result.count ≡ rounds.run_outside self.now.run.state 0 }
+        ensures ran { LocalRun (state.code_of self.now.run.state.machine)
+            (state.cpu_at self.now.run.state 0).ctx result.count result.ctx }
     {
         let cpu = self.run.cpu(0);
         let mut ctx = cpu.ctx;
         let leases = cpu.stage == Owned::Running(1) && !self.is_exit_due();
         let most = if leases { self.run.left(0) } else { 0 };
-        let count = run_slice(self.run.machine().ram.code_part(), &mut ctx, most);
+        let count = self.run.run_ahead(&mut ctx, most);
         Away { count, ctx }
     }
+
     /// The runner's turn, and then its work outside: what it ran outside before comes back, and it adds what it chooses.
     pub(crate) fn runner_turn(&mut self, away: Away) -> Away
-        requires single { IsSingle self.old.run.state.core }
-        requires going { self.old.run.state.core.closed ≡ false }
-        requires away { IsAway self.old.run.state.core away }
+        requires single { IsSingle self.old.run.state }
+        requires going { self.old.run.state.closed ≡ false }
+        requires away { IsAway self.old.run.state away }
         requires room { 2 ≤ room_in self.old }
         ensures state { self.new.run.state ≡ by_return self.old.run.state away.count }
         ensures history { self.new.entries.items ≡ self.old.entries.items ++ returned self.old.run.state away.count }
         ensures room { room_in self.old ≤ room_in self.new + 2 }
-        ensures single { IsSingle self.new.run.state.core }
-        ensures going { self.new.run.state.core.closed ≡ false }
-        ensures count { result.count ≡ rounds.run_outside self.new.run.state.core 0 }
-        ensures away { IsAway self.new.run.state.core result }
+        ensures single { IsSingle self.new.run.state }
+        ensures going { self.new.run.state.closed ≡ false }
+        ensures count { result.count ≡ rounds.run_outside self.new.run.state 0 }
+        ensures away { IsAway self.new.run.state result }
         ensures continues { Continues self.old self.new }
     {
         self.bring_back(away);
@@ -214,15 +216,15 @@ impl Playing {
 
     /// Control ends the run by the failure outside, if it hasn't ended yet.
     fn end_outside(&mut self)
-        requires single { IsSingle self.old.run.state.core }
-        requires going { self.old.run.state.core.closed ≡ false }
+        requires single { IsSingle self.old.run.state }
+        requires going { self.old.run.state.closed ≡ false }
         requires room { 1 ≤ room_in self.old }
         ensures room { room_in self.old ≤ room_in self.new + 1 }
-        ensures single { IsSingle self.new.run.state.core }
-        ensures going { self.new.run.state.core.closed ≡ false }
-        ensures ended { is_some self.new.run.state.core.ended ≡ true }
-        ensures machine { self.new.run.state.core.machine ≡ self.old.run.state.core.machine }
-        ensures seats { self.new.run.state.core.seats ≡ self.old.run.state.core.seats }
+        ensures single { IsSingle self.new.run.state }
+        ensures going { self.new.run.state.closed ≡ false }
+        ensures ended { self.new.run.state.ended ≡ Some (or_outside self.old.run.state.ended) }
+        ensures machine { self.new.run.state.machine ≡ self.old.run.state.machine }
+        ensures seats { self.new.run.state.seats ≡ self.old.run.state.seats }
         ensures continues { Continues self.old self.new }
     {
         if self.run.ended().is_none() {
@@ -235,12 +237,16 @@ impl Playing {
         }
     }
 
-    /// Ends the run by the failure outside, if it hasn't ended yet, and closes it.
+    /// After the console refused in control's turn: the runner takes its turn, the run ends by the failure outside if it
+    /// hasn't ended yet, and is closed.
     pub(crate) fn wind_down(&mut self, away: Away)
-        requires single { IsSingle self.old.run.state.core }
-        requires away { self.old.run.state.core.closed ≡ false → IsAway self.old.run.state.core away }
+        requires single { IsSingle self.old.run.state }
+        requires away { self.old.run.state.closed ≡ false → IsAway self.old.run.state away }
+        requires none_out { self.old.run.state.closed ≡ true → away.count ≡ 0 }
+        requires ended { self.old.run.state.closed ≡ true → is_some self.old.run.state.ended ≡ true }
         requires room { 8 ≤ room_in self.old }
-        ensures closed { self.new.run.state.core.closed ≡ true }
+        ensures closed { self.new.run.state.closed ≡ true }
+        ensures winds_down { WindsDown self.old self.new away.count }
         ensures continues { Continues self.old self.new }
     {
         if self.run.closed() {
@@ -250,6 +256,6 @@ impl Playing {
         self.end_outside();
         let after_end = self.runner_turn(before_end);
         let _none = self.runner_turn(after_end);
-        self.add(0, Entry::Close);
+        self.control_turn();
     }
 }

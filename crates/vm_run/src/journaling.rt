@@ -3,7 +3,7 @@ ghost use Rattle.std.specs.Prelude.{◌≡◌, ◌<◌, Some, OnOk, IsErrOf};
 ghost use Rattle.vm_host.specs.declared.host.HostFault.TheVariants.{Missing};
 ghost use Rattle.vm_host.specs.Told.{WhereTold};
 ghost use Rattle.vm_host.specs.Counts.{HasCause};
-ghost use Rattle.vm_host.specs.Files.{LeavesOthers};
+ghost use Rattle.vm_host.specs.Leaves.{ReadsHost, WritesFile};
 ghost use Rattle.vm_journal.specs.Spelling.{spelling};
 ghost use Rattle.vm_run.specs.Ends.{HasHostCauses, status_of};
 ghost use Rattle.vm_run.specs.Files.{IsJournal, Reads};
@@ -24,12 +24,9 @@ pub(crate) fn journal_from<H: Host>(
     host: &mut H,
     name: &str,
 ) -> Result<Journal, Fault>
-    ensures reads { Reads (H.tells host.old) (H.file host.old name.now) IsJournal result }
-    ensures causes { HasHostCauses (status_of result) (H.faults host.old) (H.faults host.new)
-        (H.misses host.old) (H.misses host.new) }
-    ensures image_faults { H.image_faults host.new ≡ H.image_faults host.old }
-    ensures told { H.tells host.new ≡ H.tells host.old }
-    ensures files { WhereTold (H.tells host.old) (H.file host.new ≡ H.file host.old) }
+    ensures reads { Reads (H.seen host.old).tells ((H.seen host.old).file name.now) IsJournal result }
+    ensures causes { HasHostCauses name.now (status_of result) (H.seen host.old) (H.seen host.new) }
+    ensures leaves { ReadsHost (H.seen host.old) (H.seen host.new) }
 {
     let bytes = load(alloc, host, name, JOURNAL_LIMIT)?;
     let journal = decode(alloc, &bytes)?;
@@ -44,12 +41,11 @@ pub(crate) fn save_journal<H: Host>(
     name: &str,
     journal: &Journal,
 ) -> Result<(), HostFault>
-    ensures saved { WhereTold (H.tells host.old) (OnOk result (H.file host.new name.now ≡ Some (spelling journal.now))) }
-    ensures others { WhereTold (H.tells host.old) (LeavesOthers name.now (H.file host.old) (H.file host.new)) }
-    ensures cause { HasCause (H.faults host.old) (H.faults host.new) (H.misses host.old) (H.misses host.new) result }
+    ensures saved { WhereTold (H.seen host.old).tells
+        (OnOk result ((H.seen host.new).file name.now ≡ Some (spelling journal.now))) }
+    ensures cause { HasCause name.now (H.seen host.old) (H.seen host.new) result }
     ensures not_missing { IsErrOf result Missing → ⊥ }
-    ensures image_faults { H.image_faults host.new ≡ H.image_faults host.old }
-    ensures told { H.tells host.new ≡ H.tells host.old }
+    ensures leaves { WritesFile name.now (H.seen host.old) (H.seen host.new) }
 {
     let text = encode(alloc, journal)?;
     save(alloc, host, name, &text)

@@ -1,15 +1,11 @@
 //! Replays the journal of an image file's run.
-ghost use Rattle.std.specs.Prelude.{◌≡◌, ◌∷◌, [], ◌↔◌, take, IfSome, IfNone};
-ghost use Rattle.vm_host.specs.Told.{WhereTold};
+ghost use Rattle.std.specs.Prelude.{◌≡◌, take, IfSome, IfNone, IsNone};
+ghost use Rattle.vm_host.specs.Leaves.{ReadsHost, TakesSome};
 ghost use Rattle.vm_journal.specs.Replaying.{IsFirstBad};
 ghost use Rattle.vm_machine.specs.History.{IsLegal, last_state};
 ghost use Rattle.vm_machine.specs.Starting.{IsSound};
-ghost use Rattle.vm_run.specs.declared.command.Command.TheVariants.{Replay};
-ghost use Rattle.vm_run.specs.Answer.{outside, HistoryAnswers, JournalAnswers, ReplayAnswers};
-ghost use Rattle.vm_run.specs.Ends.{HasCauses};
-ghost use Rattle.vm_run.specs.Files.{IsFileOf};
-ghost use Rattle.vm_run.specs.Starting.{IsStart};
-ghost use Rattle.vm_run.specs.Words.{IsTwice};
+ghost use Rattle.vm_run.specs.Answer.{outside, sent_in, IsRunOf, IsRunFrom, HistoryAnswers, JournalAnswers, ReplayAnswers};
+ghost use Rattle.vm_run.specs.Ends.{HasCauses, HasSinkCauses};
 
 use crate::console::write_all;
 use crate::ending::Fault;
@@ -18,7 +14,7 @@ use crate::outcome::{Kept, Outcome};
 use crate::starting::start_from;
 use std::alloc::Global;
 use vm_host::{Host, Sink};
-use vm_journal::{ReplayError, replay};
+use vm_journal::{Replayed, replay_front};
 use vm_law::{Journal, Seq};
 use vm_machine::{Run, Start};
 
@@ -30,29 +26,25 @@ pub(crate) fn replay_file<H: Host, S: Sink>(
     host: &mut H,
     console: &mut S,
 ) -> Outcome
-    ensures answers { ReplayAnswers (outside (H.tells host.old) (H.file host.old) (H.file host.new)
-        (S.tells console.old) (S.taken console.old) (S.taken console.new))
+    ensures answers { ReplayAnswers (outside (H.seen host.old) (H.seen host.new) (S.seen console.old) (S.seen console.new))
         file.now journal.now result.status result.kept }
-    ensures start { IfSome result.kept (λ k. IsFileOf (H.tells host.old) (H.file host.old file.now) IsStart k.start) }
-    ensures legal { IfSome result.kept (λ k. IsLegal k.start k.journal) }
-    ensures last { IfSome result.kept (λ k. k.run.state ≡ last_state k.start k.journal) }
-    ensures untouched { IfNone result.kept (console.new ≡ console.old) }
-    ensures causes { HasCauses result.status (H.faults host.old) (H.faults host.new)
-        (H.misses host.old) (H.misses host.new) (S.faults console.old) (S.faults console.new) }
-    ensures twice { file.now ≡ journal.now → (result.status ≡ 3) × (host.new ≡ host.old) × (console.new ≡ console.old) }
-    ensures files { WhereTold (H.tells host.old) (H.file host.new ≡ H.file host.old) }
-    ensures image_faults { H.image_faults host.new ≡ H.image_faults host.old }
-    ensures host_told { H.tells host.new ≡ H.tells host.old }
-    ensures console_told { S.tells console.new ≡ S.tells console.old }
+    ensures run { IfSome result.kept (λ k. IsRunOf (H.seen host.old) file.now k) }
+    ensures twice { file.now ≡ journal.now → IsNone result.kept }
+    ensures causes { HasCauses result.status (H.seen host.old) (H.seen host.new) (S.seen console.old) (S.seen console.new) }
+    ensures host { ReadsHost (H.seen host.old) (H.seen host.new) }
+    ensures console { IfSome result.kept (λ k. TakesSome (sent_in k) (S.seen console.old) (S.seen console.new)) }
+    ensures silent { IfNone result.kept (console.new ≡ console.old) }
 {
-    if file == journal {
-        return Outcome {
-            status: Fault::Refused.status(),
-            kept: None,
-        };
-    }
     match start_from(alloc, host, file) {
-        Ok(start) => replay_from(alloc, start, journal, host, console),
+        Ok(start) => {
+            if file == journal {
+                return Outcome {
+                    status: Fault::Refused.status(),
+                    kept: None,
+                };
+            }
+            replay_from(alloc, start, journal, host, console)
+        }
         Err(fault) => Outcome {
             status: fault.status(),
             kept: None,
@@ -69,18 +61,13 @@ fn replay_from<H: Host, S: Sink>(
     console: &mut S,
 ) -> Outcome
     requires { IsSound start }
-    ensures answers { JournalAnswers (outside (H.tells host.old) (H.file host.old) (H.file host.new)
-        (S.tells console.old) (S.taken console.old) (S.taken console.new)) journal.now result.status result.kept }
-    ensures start { IfSome result.kept (λ k. k.start ≡ start) }
-    ensures legal { IfSome result.kept (λ k. IsLegal k.start k.journal) }
-    ensures last { IfSome result.kept (λ k. k.run.state ≡ last_state k.start k.journal) }
-    ensures untouched { IfNone result.kept (console.new ≡ console.old) }
-    ensures causes { HasCauses result.status (H.faults host.old) (H.faults host.new)
-        (H.misses host.old) (H.misses host.new) (S.faults console.old) (S.faults console.new) }
-    ensures files { WhereTold (H.tells host.old) (H.file host.new ≡ H.file host.old) }
-    ensures image_faults { H.image_faults host.new ≡ H.image_faults host.old }
-    ensures host_told { H.tells host.new ≡ H.tells host.old }
-    ensures console_told { S.tells console.new ≡ S.tells console.old }
+    ensures answers { JournalAnswers (outside (H.seen host.old) (H.seen host.new) (S.seen console.old) (S.seen console.new))
+        journal.now result.status result.kept }
+    ensures run { IfSome result.kept (λ k. IsRunFrom start k) }
+    ensures causes { HasCauses result.status (H.seen host.old) (H.seen host.new) (S.seen console.old) (S.seen console.new) }
+    ensures host { ReadsHost (H.seen host.old) (H.seen host.new) }
+    ensures console { IfSome result.kept (λ k. TakesSome (sent_in k) (S.seen console.old) (S.seen console.new)) }
+    ensures silent { IfNone result.kept (console.new ≡ console.old) }
 {
     let run = match Run::begin(alloc, &start) {
         Ok(run) => run,
@@ -92,7 +79,10 @@ fn replay_from<H: Host, S: Sink>(
         }
     };
     match journal_from(alloc, host, journal) {
-        Ok(history) => replay_history(alloc, start, history, console),
+        Ok(history) => {
+            drop(run);
+            replay_history(alloc, start, history, console)
+        }
         Err(fault) => Outcome {
             status: fault.status(),
             kept: Some(Kept {
@@ -112,18 +102,21 @@ fn replay_history<S: Sink>(
     console: &mut S,
 ) -> Outcome
     requires { IsSound start }
-    ensures answers { HistoryAnswers (S.tells console.old) (S.taken console.old) (S.taken console.new) history result.status result.kept }
-    ensures start { IfSome result.kept (λ k. k.start ≡ start) }
-    ensures legal { IfSome result.kept (λ k. IsLegal k.start k.journal) }
-    ensures last { IfSome result.kept (λ k. k.run.state ≡ last_state k.start k.journal) }
-    ensures untouched { IfNone result.kept (console.new ≡ console.old) }
-    ensures causes { HasCauses result.status 0 0 0 0 (S.faults console.old) (S.faults console.new) }
-    ensures told { S.tells console.new ≡ S.tells console.old }
+    ensures answers { HistoryAnswers (S.seen console.old) (S.seen console.new) history result.status result.kept }
+    ensures run { IfSome result.kept (λ k. IsRunFrom start k) }
+    ensures causes { HasSinkCauses result.status (S.seen console.old) (S.seen console.new) }
+    ensures console { IfSome result.kept (λ k. TakesSome (sent_in k) (S.seen console.old) (S.seen console.new)) }
+    ensures silent { IfNone result.kept (console.new ≡ console.old) }
 {
-    match replay(alloc, &start, &history) {
-        Ok(run) => write_replayed(start, history, run, console),
-        Err(ReplayError::BadEntry { at }) => keep_front(alloc, start, &history, at),
-        Err(ReplayError::Memory) => Outcome {
+    match replay_front(alloc, &start, &history) {
+        Ok(replayed) => {
+            let Replayed { run, bad } = replayed;
+            match bad {
+                None => write_replayed(start, history, run, console),
+                Some(at) => keep_front(alloc, start, &history, run, at),
+            }
+        }
+        Err(_) => Outcome {
             status: Fault::Memory.status(),
             kept: None,
         },
@@ -134,13 +127,11 @@ fn replay_history<S: Sink>(
 fn write_replayed<S: Sink>(start: Start, history: Journal, run: Run, console: &mut S) -> Outcome
     requires legal { IsLegal start history }
     requires last { run.state ≡ last_state start history }
-    ensures answers { HistoryAnswers (S.tells console.old) (S.taken console.old) (S.taken console.new) history result.status result.kept }
-    ensures start { IfSome result.kept (λ k. k.start ≡ start) }
-    ensures legal { IfSome result.kept (λ k. IsLegal k.start k.journal) }
-    ensures last { IfSome result.kept (λ k. k.run.state ≡ last_state k.start k.journal) }
-    ensures untouched { IfNone result.kept (console.new ≡ console.old) }
-    ensures causes { HasCauses result.status 0 0 0 0 (S.faults console.old) (S.faults console.new) }
-    ensures told { S.tells console.new ≡ S.tells console.old }
+    ensures answers { HistoryAnswers (S.seen console.old) (S.seen console.new) history result.status result.kept }
+    ensures run { IfSome result.kept (λ k. IsRunFrom start k) }
+    ensures causes { HasSinkCauses result.status (S.seen console.old) (S.seen console.new) }
+    ensures console { IfSome result.kept (λ k. TakesSome (sent_in k) (S.seen console.old) (S.seen console.new)) }
+    ensures silent { IfNone result.kept (console.new ≡ console.old) }
 {
     let written = write_all(console, run.console());
     let kept = Some(Kept {
@@ -157,24 +148,17 @@ fn write_replayed<S: Sink>(start: Start, history: Journal, run: Run, console: &m
     }
 }
 
-/// Keeps what stands before the first entry that isn't lawful.
-fn keep_front(alloc: Global, start: Start, history: &Journal, at: u64) -> Outcome
-    requires sound { IsSound start }
+/// Keeps what stands before the first entry that isn't lawful, and the run after it.
+fn keep_front(alloc: Global, start: Start, history: &Journal, run: Run, at: u64) -> Outcome
     requires bad { IsFirstBad start history.now at }
+    requires last { run.state ≡ last_state start (take at history.now) }
     ensures status { IfNone result.kept (result.status ≡ 71) }
     ensures refused { IfSome result.kept (λ _. result.status ≡ 3) }
-    ensures start { IfSome result.kept (λ k. k.start ≡ start) }
+    ensures run { IfSome result.kept (λ k. IsRunFrom start k) }
     ensures front { IfSome result.kept (λ k. k.journal ≡ take at history.now) }
-    ensures last { IfSome result.kept (λ k. k.run.state ≡ last_state k.start k.journal) }
 {
-    let Ok(front) = Seq::from_slice(alloc, &history.as_slice()[..at as usize]) else {
-        return Outcome {
-            status: Fault::Memory.status(),
-            kept: None,
-        };
-    };
-    match replay(alloc, &start, &front) {
-        Ok(run) => Outcome {
+    match Seq::from_slice(alloc, &history.as_slice()[..at as usize]) {
+        Ok(front) => Outcome {
             status: Fault::Refused.status(),
             kept: Some(Kept {
                 start,

@@ -1,18 +1,15 @@
 //! Runs the guest of an image file.
-ghost use Rattle.std.specs.Prelude.{◌≡◌, ◌≢◌, ◌∷◌, [], ◌↔◌, IsTrue, OnOk, IfSome, IfNone, IsErrOf};
+ghost use Rattle.std.specs.Prelude.{◌≡◌, ◌≢◌, ◌∷◌, [], ◌↔◌, IsTrue, OnOk, IfSome, IfNone, IsErrOf, IsNone};
 ghost use Rattle.std.specs.Option.{option_copied};
 ghost use Rattle.vm_law.specs.declared.script.Order.TheVariants.{WaitQuiet};
-ghost use Rattle.vm_host.specs.declared.host.HostFault.TheVariants.{Missing};
-ghost use Rattle.vm_host.specs.Told.{WhereTold};
-ghost use Rattle.vm_host.specs.Counts.{HasCause};
-ghost use Rattle.vm_machine.specs.History.{IsLegal, last_state};
+ghost use Rattle.vm_host.specs.declared.host.HostFault.TheVariants.{Missing, Failed};
+ghost use Rattle.vm_host.specs.Leaves.{ReadsHost, TakesSome};
 ghost use Rattle.vm_machine.specs.Starting.{IsSound};
+ghost use Rattle.vm_machine.specs.Turns.{IsOrderly};
 ghost use Rattle.vm_run.specs.declared.command.Command.TheVariants.{Solo};
-ghost use Rattle.vm_run.specs.Answer.{outside, SoloAnswers, RunAnswers, IsSaved, ChangesOnly};
+ghost use Rattle.vm_run.specs.Answer.{outside, sent_in, IsRunOf, IsRunFrom, SoloAnswers, RunAnswers, IsSaved, ChangesOnly};
 ghost use Rattle.vm_run.specs.Closing.{SaysWhy, Closes};
-ghost use Rattle.vm_run.specs.Ends.{HasCauses, HasJournalCauses};
-ghost use Rattle.vm_run.specs.Files.{IsFileOf};
-ghost use Rattle.vm_run.specs.Starting.{IsStart};
+ghost use Rattle.vm_run.specs.Ends.{HasCauses, HasJournalCauses, HasCounts, IsNamedSome};
 ghost use Rattle.vm_run.specs.Words.{IsTwice};
 
 use crate::ending::Fault;
@@ -33,29 +30,27 @@ pub(crate) fn solo<H: Host, S: Sink>(
     host: &mut H,
     console: &mut S,
 ) -> Outcome
-    ensures answers { SoloAnswers (outside (H.tells host.old) (H.file host.old) (H.file host.new)
-        (S.tells console.old) (S.taken console.old) (S.taken console.new))
+    ensures answers { SoloAnswers (outside (H.seen host.old) (H.seen host.new) (S.seen console.old) (S.seen console.new))
         file.now (option_copied journal.entry) result.status result.kept }
-    ensures start { IfSome result.kept (λ k. IsFileOf (H.tells host.old) (H.file host.old file.now) IsStart k.start) }
-    ensures legal { IfSome result.kept (λ k. IsLegal k.start k.journal) }
-    ensures last { IfSome result.kept (λ k. k.run.state ≡ last_state k.start k.journal) }
-    ensures untouched { IfNone result.kept (console.new ≡ console.old) }
-    ensures causes { HasCauses result.status (H.faults host.old) (H.faults host.new)
-        (H.misses host.old) (H.misses host.new) (S.faults console.old) (S.faults console.new) }
-    ensures twice { IsTwice (Solo file.now (option_copied journal.entry)) → (result.status ≡ 3) × (host.new ≡ host.old) × (console.new ≡ console.old) }
-    ensures changes { ChangesOnly (H.tells host.old) (H.file host.old) (H.file host.new) (option_copied journal.entry) }
-    ensures image_faults { H.image_faults host.new ≡ H.image_faults host.old }
-    ensures host_told { H.tells host.new ≡ H.tells host.old }
-    ensures console_told { S.tells console.new ≡ S.tells console.old }
+    ensures run { IfSome result.kept (λ k. IsRunOf (H.seen host.old) file.now k) }
+    ensures orderly { IfSome result.kept (λ k. IsOrderly k.start k.journal) }
+    ensures twice { IsTwice (Solo file.now (option_copied journal.entry)) → IsNone result.kept }
+    ensures causes { HasCauses result.status (H.seen host.old) (H.seen host.new) (S.seen console.old) (S.seen console.new) }
+    ensures host { ChangesOnly (option_copied journal.entry) (H.seen host.old) (H.seen host.new) }
+    ensures console { IfSome result.kept (λ k. TakesSome (sent_in k) (S.seen console.old) (S.seen console.new)) }
+    ensures still { IfNone result.kept (ReadsHost (H.seen host.old) (H.seen host.new)) }
+    ensures silent { IfNone result.kept (console.new ≡ console.old) }
 {
-    if is_named_twice(file, journal) {
-        return Outcome {
-            status: Fault::Refused.status(),
-            kept: None,
-        };
-    }
     match start_from(alloc, host, file) {
-        Ok(start) => run_start(alloc, start, journal, host, console),
+        Ok(start) => {
+            if is_named_twice(file, journal) {
+                return Outcome {
+                    status: Fault::Refused.status(),
+                    kept: None,
+                };
+            }
+            run_start(alloc, start, journal, host, console)
+        }
         Err(fault) => Outcome {
             status: fault.status(),
             kept: None,
@@ -84,19 +79,15 @@ fn run_start<H: Host, S: Sink>(
     requires sound { IsSound start }
     requires one { start.plan.cpus ≡ 1 }
     requires script { start.script ≡ WaitQuiet ∷ [] }
-    ensures answers { RunAnswers (outside (H.tells host.old) (H.file host.old) (H.file host.new)
-        (S.tells console.old) (S.taken console.old) (S.taken console.new))
+    ensures answers { RunAnswers (outside (H.seen host.old) (H.seen host.new) (S.seen console.old) (S.seen console.new))
         (option_copied journal.entry) result.status result.kept }
-    ensures start { IfSome result.kept (λ k. k.start ≡ start) }
-    ensures legal { IfSome result.kept (λ k. IsLegal k.start k.journal) }
-    ensures last { IfSome result.kept (λ k. k.run.state ≡ last_state k.start k.journal) }
-    ensures untouched { IfNone result.kept (console.new ≡ console.old) }
-    ensures causes { HasCauses result.status (H.faults host.old) (H.faults host.new)
-        (H.misses host.old) (H.misses host.new) (S.faults console.old) (S.faults console.new) }
-    ensures changes { ChangesOnly (H.tells host.old) (H.file host.old) (H.file host.new) (option_copied journal.entry) }
-    ensures image_faults { H.image_faults host.new ≡ H.image_faults host.old }
-    ensures host_told { H.tells host.new ≡ H.tells host.old }
-    ensures console_told { S.tells console.new ≡ S.tells console.old }
+    ensures run { IfSome result.kept (λ k. IsRunFrom start k) }
+    ensures orderly { IfSome result.kept (λ k. IsOrderly k.start k.journal) }
+    ensures causes { HasCauses result.status (H.seen host.old) (H.seen host.new) (S.seen console.old) (S.seen console.new) }
+    ensures host { ChangesOnly (option_copied journal.entry) (H.seen host.old) (H.seen host.new) }
+    ensures console { IfSome result.kept (λ k. TakesSome (sent_in k) (S.seen console.old) (S.seen console.new)) }
+    ensures still { IfNone result.kept (host.new ≡ host.old) }
+    ensures silent { IfNone result.kept (console.new ≡ console.old) }
 {
     match play(alloc, &start, console) {
         Ok(played) => {
@@ -132,11 +123,9 @@ fn close<H: Host>(
     end: Result<(), PlayFault>,
     why: Option<Why>,
 ) -> u8
-    ensures closes { Closes (H.tells host.old) (H.file host.new) (option_copied name.entry) history.now why end result }
-    ensures changes { ChangesOnly (H.tells host.old) (H.file host.old) (H.file host.new) (option_copied name.entry) }
-    ensures causes { HasJournalCauses result (H.faults host.old) (H.faults host.new) (H.misses host.old) (H.misses host.new) }
-    ensures image_faults { H.image_faults host.new ≡ H.image_faults host.old }
-    ensures told { H.tells host.new ≡ H.tells host.old }
+    ensures closes { Closes (H.seen host.old) (H.seen host.new) (option_copied name.entry) history.now why end result }
+    ensures causes { HasJournalCauses result (H.seen host.old) (H.seen host.new) }
+    ensures host { ChangesOnly (option_copied name.entry) (H.seen host.old) (H.seen host.new) }
 {
     match end {
         Ok(()) => match keep_journal(alloc, host, name, history) {
@@ -158,12 +147,11 @@ fn keep_journal<H: Host>(
     name: Option<&Text>,
     history: &Journal,
 ) -> Result<(), HostFault>
-    ensures saved { OnOk result (IsSaved (H.tells host.old) (H.file host.new) (option_copied name.entry) history.now) }
-    ensures changes { ChangesOnly (H.tells host.old) (H.file host.old) (H.file host.new) (option_copied name.entry) }
-    ensures cause { HasCause (H.faults host.old) (H.faults host.new) (H.misses host.old) (H.misses host.new) result }
+    ensures saved { OnOk result (IsSaved (H.seen host.old) (H.seen host.new) (option_copied name.entry) history.now) }
+    ensures failed { IsErrOf result Failed → IsNamedSome (option_copied name.entry) (H.seen host.new) }
+    ensures counts { HasCounts (H.seen host.old) (H.seen host.new) result }
     ensures not_missing { IsErrOf result Missing → ⊥ }
-    ensures image_faults { H.image_faults host.new ≡ H.image_faults host.old }
-    ensures told { H.tells host.new ≡ H.tells host.old }
+    ensures host { ChangesOnly (option_copied name.entry) (H.seen host.old) (H.seen host.new) }
 {
     match name {
         Some(name) => save_journal(alloc, host, name.as_str(), history),

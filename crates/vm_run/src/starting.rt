@@ -1,7 +1,7 @@
 //! The start that an image's file gives.
 ghost use Rattle.std.specs.Prelude.{◌≡◌, ◌∷◌, [], IfOk};
 ghost use Rattle.vm_law.specs.declared.script.Order.TheVariants.{WaitQuiet};
-ghost use Rattle.vm_host.specs.Told.{WhereTold};
+ghost use Rattle.vm_host.specs.Leaves.{ReadsHost};
 ghost use Rattle.vm_machine.specs.Starting.{IsSound};
 ghost use Rattle.vm_run.specs.Ends.{HasHostCauses, status_of};
 ghost use Rattle.vm_run.specs.Files.{Reads};
@@ -25,16 +25,14 @@ const IMAGE_LIMIT: u64 = 268_435_480;
 const INSTRUCTION_LIMIT: u64 = 10_000_000;
 
 /// The start of the image in a file, under the default plan.
+#[tactic(auto, unfolding(vm_machine::specs::Script::may_follow, vm_machine::specs::Script::may_stand))]
 pub(crate) fn start_from<H: Host>(alloc: Global, host: &mut H, name: &str) -> Result<Start, Fault>
-    ensures reads { Reads (H.tells host.old) (H.file host.old name.now) spec.IsStart result }
+    ensures reads { Reads (H.seen host.old).tells ((H.seen host.old).file name.now) spec.IsStart result }
     ensures sound { IfOk result IsSound }
     ensures one { IfOk result (λ start. start.plan.cpus ≡ 1) }
     ensures script { IfOk result (λ start. start.script ≡ WaitQuiet ∷ []) }
-    ensures causes { HasHostCauses (status_of result) (H.faults host.old) (H.faults host.new)
-        (H.misses host.old) (H.misses host.new) }
-    ensures image_faults { H.image_faults host.new ≡ H.image_faults host.old }
-    ensures told { H.tells host.new ≡ H.tells host.old }
-    ensures files { WhereTold (H.tells host.old) (H.file host.new ≡ H.file host.old) }
+    ensures causes { HasHostCauses name.now (status_of result) (H.seen host.old) (H.seen host.new) }
+    ensures leaves { ReadsHost (H.seen host.old) (H.seen host.new) }
 {
     let bytes = load(alloc, host, name, IMAGE_LIMIT)?;
     let image = read(alloc, &bytes, MEMORY_SIZE)?;

@@ -38,7 +38,7 @@ fn solo<R: Threads + Wait + Sync, S: Sink>(
 #[test]
 fn guests_run_to_their_end(rt: HostRuntime) -> Result<(), Fail> {
     let alloc = rt.alloc();
-    let runs: [(&[u8], u8, &[u8]); 26] = [
+    let runs: [(&[u8], u8, &[u8]); 27] = [
         (FIRST, 0, b"A"),
         (
             b"\xBA\xF8\x03\x00\x00\xB0\x43\xEE\xB0\x42\xEE\xEB\x00\xF4",
@@ -95,6 +95,12 @@ fn guests_run_to_their_end(rt: HostRuntime) -> Result<(), Fail> {
             b"\xBC\x00\x10\x00\x00\xE8\x01\x00\x00\x00\xF4\xBA\xF8\x03\x00\x00\xB0\x41\xEE\xC3",
             0,
             b"A",
+        ),
+        // A store to the code, which is run as stored: MOV BYTE [0x0E], 42 over the operand of MOV AL, 41.
+        (
+            b"\xC6\x04\x25\x0E\x00\x00\x00\x42\xBA\xF8\x03\x00\x00\xB0\x41\xEE\xF4",
+            0,
+            b"B",
         ),
         // A store to the code, an access behind memory, and a division by 0 without an IDT.
         (b"\xC6\x04\x25\x00\x00\x00\x00\x01", 4, b""),
@@ -247,13 +253,9 @@ struct Narrow {
 }
 
 impl Sink for Narrow {
-    ghost use Rattle.std.specs.Prelude.{true};
+    ghost use Rattle.vm_host.specs.MemState.{sink_view};
 
-    ghost tells = { λ _. true };
-
-    ghost taken = { λ s. s.sink.bytes };
-
-    ghost faults = { λ s. s.sink.calls.faults };
+    ghost seen = { λ s. sink_view s.sink };
 
     fn write(&mut self, piece: &[u8]) -> Result<usize, SinkFault> {
         let size = piece.len().min(1);

@@ -1,12 +1,10 @@
 //! The top calls.
 ghost use Rattle.std.specs.Prelude.{◌≡◌, ◌↔◌, ℕ, List, [], ◌∷◌, map, Contains, IfSome, IfNone, IsNone};
 ghost use Rattle.vm_host.specs.Told.{WhereTold};
-ghost use Rattle.vm_machine.specs.History.{IsLegal, last_state};
+ghost use Rattle.vm_host.specs.Leaves.{ReadsHost, TakesSome};
 ghost use Rattle.vm_run.specs.declared.command.Command.{Command as CommandValue};
-ghost use Rattle.vm_run.specs.Answer.{outside, Answers, Changes, CanDo, MustRefuse, statuses, done_statuses, refused_statuses};
+ghost use Rattle.vm_run.specs.Answer.{outside, sent_in, Answers, IsRunOf, IsOrderlyOf, Changes, CanDo, MustRefuse, statuses, done_statuses, refused_statuses};
 ghost use Rattle.vm_run.specs.Ends.{HasCauses, NoneRose};
-ghost use Rattle.vm_run.specs.Files.{IsFileOf};
-ghost use Rattle.vm_run.specs.Starting.{IsStart};
 ghost use Rattle.vm_run.specs.Words.{Says, IsTwice, image_name};
 
 use crate::command::{Command, WordsFault, command_of};
@@ -34,33 +32,29 @@ pub fn still_cmd<H: Host, S: Sink, L: Sink>(
     ensures statuses { Contains statuses result.status }
 
     // What the status says of the files, of the console and of the run that is kept.
-    ensures answers { Answers command.now (outside (H.tells host.old) (H.file host.old) (H.file host.new)
-        (S.tells console.old) (S.taken console.old) (S.taken console.new)) result.status result.kept }
+    ensures answers { Answers command.now (outside (H.seen host.old) (H.seen host.new) (S.seen console.old) (S.seen console.new))
+        result.status result.kept }
 
     // A run that is kept began at the start of the image's file, its journal is a history, and it is what follows it.
-    ensures start { IfSome result.kept (λ k. IsFileOf (H.tells host.old) (H.file host.old (image_name command.now)) IsStart k.start) }
-    ensures legal { IfSome result.kept (λ k. IsLegal k.start k.journal) }
-    ensures last { IfSome result.kept (λ k. k.run.state ≡ last_state k.start k.journal) }
-    ensures untouched { IfNone result.kept (console.new ≡ console.old) }
+    ensures run { IfSome result.kept (λ k. IsRunOf (H.seen host.old) (image_name command.now) k) }
+    ensures orderly { IfSome result.kept (λ k. IsOrderlyOf command.now k) }
+    ensures twice { IsTwice command.now → IsNone result.kept }
 
     // A refusal of host or console has its status, and the status of a refusal has its cause.
-    ensures causes { HasCauses result.status (H.faults host.old) (H.faults host.new)
-        (H.misses host.old) (H.misses host.new) (S.faults console.old) (S.faults console.new) }
+    ensures causes { HasCauses result.status (H.seen host.old) (H.seen host.new) (S.seen console.old) (S.seen console.new) }
 
     // What the files allow is done where nobody refuses, and what they don't allow is refused.
-    ensures complete { WhereTold (H.tells host.old) (CanDo (H.file host.old) command.now
-        → NoneRose (H.faults host.old) (H.faults host.new) (H.misses host.old) (H.misses host.new)
-        (S.faults console.old) (S.faults console.new)
+    ensures complete { WhereTold (H.seen host.old).tells (CanDo (H.seen host.old).file command.now
+        → NoneRose (H.seen host.old) (H.seen host.new) (S.seen console.old) (S.seen console.new)
         → Contains (done_statuses command.now) result.status) }
-    ensures refuses { WhereTold (H.tells host.old) (MustRefuse (H.file host.old) command.now
+    ensures refuses { WhereTold (H.seen host.old).tells (MustRefuse (H.seen host.old).file command.now
         → Contains refused_statuses result.status) }
-    ensures twice { IsTwice command.now → (result.status ≡ 3) × (host.new ≡ host.old) × (console.new ≡ console.old) }
 
-    // What stays.
-    ensures changes { Changes command.now (H.tells host.old) (H.file host.old) (H.file host.new) }
-    ensures image_faults { H.image_faults host.new ≡ H.image_faults host.old }
-    ensures host_told { H.tells host.new ≡ H.tells host.old }
-    ensures console_told { S.tells console.new ≡ S.tells console.old }
+    // What a command leaves alone: of the host, of the console, and of both where nothing is kept.
+    ensures host { Changes command.now (H.seen host.old) (H.seen host.new) }
+    ensures console { IfSome result.kept (λ k. TakesSome (sent_in k) (S.seen console.old) (S.seen console.new)) }
+    ensures still { IfNone result.kept (ReadsHost (H.seen host.old) (H.seen host.new)) }
+    ensures silent { IfNone result.kept (console.new ≡ console.old) }
     ensures log { log.new ≡ log.old }
 {
     match command {
@@ -87,43 +81,38 @@ pub fn vmrun<R: Threads + Wait + Sync, H: Host, S: Sink, L: Sink, G: Gate + Sync
     _gate: &G,
 ) -> Outcome
     ensures usage { (result.status ≡ 2) ↔ ((command : CommandValue) → Says (map (λ w. w.now) words.entry.now) command → ⊥) }
-    ensures unused { result.status ≡ 2 → (host.new ≡ host.old) × (console.new ≡ console.old) × IsNone result.kept }
+    ensures unused { result.status ≡ 2 → (host.new ≡ host.old) × IsNone result.kept }
     ensures statuses { Contains (2 ∷ statuses) result.status }
 
     // What the status says of the files, of the console and of the run that is kept.
     ensures answers { (command : CommandValue) → Says (map (λ w. w.now) words.entry.now) command
-        → Answers command (outside (H.tells host.old) (H.file host.old) (H.file host.new)
-        (S.tells console.old) (S.taken console.old) (S.taken console.new)) result.status result.kept }
+        → Answers command (outside (H.seen host.old) (H.seen host.new) (S.seen console.old) (S.seen console.new)) result.status result.kept }
 
     // A run that is kept began at the start of the image's file, its journal is a history, and it is what follows it.
-    ensures start { (command : CommandValue) → Says (map (λ w. w.now) words.entry.now) command
-        → IfSome result.kept (λ k. IsFileOf (H.tells host.old) (H.file host.old (image_name command)) IsStart k.start) }
-    ensures legal { IfSome result.kept (λ k. IsLegal k.start k.journal) }
-    ensures last { IfSome result.kept (λ k. k.run.state ≡ last_state k.start k.journal) }
-    ensures untouched { IfNone result.kept (console.new ≡ console.old) }
+    ensures run { (command : CommandValue) → Says (map (λ w. w.now) words.entry.now) command
+        → IfSome result.kept (λ k. IsRunOf (H.seen host.old) (image_name command) k) }
+    ensures orderly { (command : CommandValue) → Says (map (λ w. w.now) words.entry.now) command
+        → IfSome result.kept (λ k. IsOrderlyOf command k) }
+    ensures twice { (command : CommandValue) → Says (map (λ w. w.now) words.entry.now) command → IsTwice command → IsNone result.kept }
 
     // A refusal of host or console has its status, and the status of a refusal has its cause.
-    ensures causes { HasCauses result.status (H.faults host.old) (H.faults host.new)
-        (H.misses host.old) (H.misses host.new) (S.faults console.old) (S.faults console.new) }
+    ensures causes { HasCauses result.status (H.seen host.old) (H.seen host.new) (S.seen console.old) (S.seen console.new) }
 
     // What the files allow is done where nobody refuses, and what they don't allow is refused.
     ensures complete { (command : CommandValue) → Says (map (λ w. w.now) words.entry.now) command
-        → WhereTold (H.tells host.old) (CanDo (H.file host.old) command
-        → NoneRose (H.faults host.old) (H.faults host.new) (H.misses host.old) (H.misses host.new)
-        (S.faults console.old) (S.faults console.new)
+        → WhereTold (H.seen host.old).tells (CanDo (H.seen host.old).file command
+        → NoneRose (H.seen host.old) (H.seen host.new) (S.seen console.old) (S.seen console.new)
         → Contains (done_statuses command) result.status) }
     ensures refuses { (command : CommandValue) → Says (map (λ w. w.now) words.entry.now) command
-        → WhereTold (H.tells host.old) (MustRefuse (H.file host.old) command
+        → WhereTold (H.seen host.old).tells (MustRefuse (H.seen host.old).file command
         → Contains refused_statuses result.status) }
-    ensures twice { (command : CommandValue) → Says (map (λ w. w.now) words.entry.now) command → IsTwice command
-        → Contains (3 ∷ 71 ∷ []) result.status × (host.new ≡ host.old) × (console.new ≡ console.old) }
 
-    // What stays.
-    ensures changes { (command : CommandValue) → Says (map (λ w. w.now) words.entry.now) command
-        → Changes command (H.tells host.old) (H.file host.old) (H.file host.new) }
-    ensures image_faults { H.image_faults host.new ≡ H.image_faults host.old }
-    ensures host_told { H.tells host.new ≡ H.tells host.old }
-    ensures console_told { S.tells console.new ≡ S.tells console.old }
+    // What a command leaves alone: of the host, of the console, and of both where nothing is kept.
+    ensures host { (command : CommandValue) → Says (map (λ w. w.now) words.entry.now) command
+        → Changes command (H.seen host.old) (H.seen host.new) }
+    ensures console { IfSome result.kept (λ k. TakesSome (sent_in k) (S.seen console.old) (S.seen console.new)) }
+    ensures still { IfNone result.kept (ReadsHost (H.seen host.old) (H.seen host.new)) }
+    ensures silent { IfNone result.kept (console.new ≡ console.old) }
     ensures log { log.new ≡ log.old }
 {
     match command_of(alloc, words) {

@@ -92,7 +92,7 @@ number_of_bits n (suc k) =
 abbrev pub bit_test : List ℕ → ℕ → Bool
 bit_test bs v = eqb (bit_at (get_or bs (v / 8) 0) (v % 8)) 1
 
-has_vectors_of : (bs : List ℕ) (v : ℕ) → v < 256 → has (vectors_of bs) v ≡ bit_test bs v
+pub has_vectors_of : (bs : List ℕ) (v : ℕ) → v < 256 → has (vectors_of bs) v ≡ bit_test bs v
 unfolding vectors_of
 has_vectors_of bs v l = has_set_of (map (bit_test bs) (range_with_len 0 256)) v ∙ get_or-map-range_with_len (bit_test bs) 0 256 v v false l (omega arith)
 
@@ -121,7 +121,7 @@ bit_back s v l =
     ∙ bit_of_number (λ b. has s (8 * (v / 8) + b)) 8 (v % 8) (omega arith)
     ∙ ap (has s) place
 
-none_past : (bs : List ℕ) (v : ℕ) → 256 ≤ v → has (vectors_of bs) v ≡ false
+pub none_past : (bs : List ℕ) (v : ℕ) → 256 ≤ v → has (vectors_of bs) v ≡ false
 unfolding vectors_of
 none_past bs v l = past_the_end (map (bit_test bs) (range_with_len 0 256)) v (let e = length-map-range_with_len (bit_test bs) 0 256 in omega arith)
 

@@ -1,26 +1,29 @@
-ghost use Rattle.std.specs.Prelude.{◌≡◌, ◌+◌, ◌^◌, ◌≤◌, ◌<◌, ℕ, true, false, IfNone, IfSome};
+ghost use Rattle.std.specs.Prelude.{◌≡◌, ◌+◌, ◌^◌, ◌≤◌, ◌<◌, ℕ, true, false, IfNone, IfSome, if◌then◌else◌};
 ghost use Rattle.std.specs.FinSet as set;
 ghost use Rattle.vm_vectors.specs.Vectors as spec;
 
+use crate::words;
 use std::marker::Model;
 
 /// A set of interrupt vectors, numbers below 256. Contracts see it as a finite set of numbers.
+///
+/// Vector v is bit v % 64 of word v / 64.
 #[derive(Debug, Drop)]
 pub struct VectorSet {
-    members: [bool; 256],
+    words: [u64; 4],
 }
 
 impl Model for VectorSet {
     ghost use Rattle.std.specs.Coded.{coded_ℕ};
     ghost use Rattle.std.specs.FinSet as set;
     ghost use Rattle.vm_vectors.specs.Vectors.{Vectors};
-    ghost use Rattle.vm_law.specs.BitSet.{set_of};
+    ghost use Rattle.vm_vectors.specs.Words.{set_in};
 
     ghost Value = { Vectors };
 
     ghost coded = { set.code coded_ℕ };
 
-    ghost view = { λ s. set_of s.members };
+    ghost view = { λ s. set_in s.words };
 }
 
 impl VectorSet {
@@ -28,42 +31,35 @@ impl VectorSet {
     pub fn empty() -> VectorSet
         ensures { result ≡ set.empty }
     {
-        VectorSet {
-            members: [false; 256],
-        }
+        VectorSet { words: [0; 4] }
     }
 
     /// An equal set.
     pub fn copy(&self) -> VectorSet
         ensures { result ≡ self.now }
     {
-        VectorSet {
-            members: self.members,
-        }
+        VectorSet { words: self.words }
     }
 
     /// Adds a vector.
-    #[tactic(auto, using(vm_law::proofs::BitSets::set_of_with))]
     pub fn insert(&mut self, vector: u8)
         ensures { self.new ≡ set.insert self.old vector }
     {
-        self.members[vector as usize] = true;
+        self.words[vector as usize / 64] |= 1 << (vector % 64);
     }
 
     /// Takes a vector out, if it is a member.
-    #[tactic(auto, using(vm_law::proofs::BitSets::set_of_without))]
     pub fn remove(&mut self, vector: u8)
         ensures { self.new ≡ set.remove self.old vector }
     {
-        self.members[vector as usize] = false;
+        self.words[vector as usize / 64] &= !(1 << (vector % 64));
     }
 
     /// Whether a vector is a member.
-    #[tactic(auto, using(vm_law::proofs::BitSets::has_set_of))]
     pub fn has(&self, vector: u8) -> bool
         ensures { result ≡ spec.has self.now vector }
     {
-        self.members[vector as usize]
+        self.words[vector as usize / 64] >> (vector % 64) & 1 == 1
     }
 
     /// The highest member, or none where the set is empty.
@@ -73,24 +69,14 @@ impl VectorSet {
         ensures member { IfSome result (λ v. spec.has self.now v ≡ true) }
         ensures greatest { IfSome result (λ v. (w : ℕ) → v < w → spec.has self.now w ≡ false) }
     {
-        self.is_small();
-        let mut below: u16 = 256;
-        while below > 0 {
-            let vector = (below - 1) as u8;
-            if self.has(vector) {
-                return Some(vector);
-            }
-            below -= 1;
-        }
-        None
+        words::top(&self.words)
     }
 
     /// Nothing from 256 on is a member.
-    #[tactic(auto, using(vm_law::proofs::BitSets::past_the_end))]
     pub fn is_small(&self)
         ensures { (v : ℕ) → 256 ≤ v → spec.has self.now v ≡ false }
     {
-        let _members = self.members;
+        let _words = self.words;
     }
 
     /// Word `k` of the eight that a 256-bit register is read as: bit b is set where vector 32 k + b is a member.
@@ -115,16 +101,24 @@ impl VectorSet {
     }
 
     /// The set whose saved form the bytes are.
-    #[tactic(auto, using(std::proofs::lemmas::Nat::Bits::shr_and_one))]
     pub fn from_bytes(bytes: &[u8; 32]) -> VectorSet
         ensures set { result ≡ spec.vectors_of bytes.now }
         ensures inverse { spec.bytes_of result ≡ bytes.now }
     {
-        let mut members = [false; 256];
-        for (v, member) in members.iter_mut().enumerate() {
-            *member = bytes[v / 8] >> (v % 8) & 1 == 1;
+        let mut set = VectorSet::empty();
+        for v in 0..256usize {
+            set.put(v as u8, bytes[v / 8] >> (v % 8) & 1 == 1);
         }
-        VectorSet { members }
+        set
+    }
+
+    /// Adds a vector where it is to be a member.
+    fn put(&mut self, vector: u8, member: bool)
+        ensures { self.new ≡ (if member then set.insert self.old vector else self.old) }
+    {
+        if member {
+            self.insert(vector);
+        }
     }
 
     /// The membership of `count` vectors from `first` on, as bits.

@@ -1,23 +1,16 @@
 //! vmrun, a virtual machine for an integer subset of 64-bit x86.
 //!
 //! This program hands the command line, the files of the system and standard output to `vm_run::vmrun` and ends with the status
-//! that it answers. Its file and output adapters meet the traits of `vm_host` and tell nothing of content: what a real file or terminal
-//! holds isn't claimed.
+//! that it answers. Files and output are those of `vm_hostreal`, which tell nothing of content: what a real file or terminal holds
+//! isn't claimed.
 #![tactic(auto)]
 
-mod file_host;
-mod file_image;
-mod out_sink;
-#[cfg(test)]
-mod tests;
-
-use crate::file_host::FileHost;
-use crate::out_sink::OutSink;
 use std::process::ExitCode;
 use std::sync::Wait;
 use std::thread::Threads;
 use std::{env, io};
 use vm_host::NoGate;
+use vm_hostreal::{FileHost, OutSink};
 use vm_run::vmrun;
 
 /// The words after the program's name.

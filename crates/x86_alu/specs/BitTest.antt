@@ -33,18 +33,18 @@ bit_result op.Bsf s a b = if b == 0 then a else lowest_one b
 bit_result op.Bsr s a b = if b == 0 then a else highest_one b
 
 -- a test: CF is the bit, ZF stays, the others are clear
-unfoldable pub tested : ℕ → ℕ → ℕ → ℕ → ℕ
-tested s a b n = with_flags n (record { cf = is_set a (b % s); pf = false; af = false; zf = zero_of n; sf = false; of = false })
+unfoldable pub test_flags : ℕ → ℕ → ℕ → ℕ → ℕ
+test_flags s a b n = with_flags n (record { cf = is_set a (b % s); pf = false; af = false; zf = zero_of n; sf = false; of = false })
 
 -- a scan: ZF where there is nothing to find, the others clear
-unfoldable pub scanned : ℕ → ℕ → ℕ
-scanned b n = with_flags n (record { cf = false; pf = false; af = false; zf = b == 0; sf = false; of = false })
+unfoldable pub scan_flags : ℕ → ℕ → ℕ
+scan_flags b n = with_flags n (record { cf = false; pf = false; af = false; zf = b == 0; sf = false; of = false })
 
 -- RFLAGS after, n being RFLAGS before
 unfoldable pub bit_flags : BitOp → ℕ → ℕ → ℕ → ℕ → ℕ
-bit_flags op.Bt s a b n = tested s a b n
-bit_flags op.Bts s a b n = tested s a b n
-bit_flags op.Btr s a b n = tested s a b n
-bit_flags op.Btc s a b n = tested s a b n
-bit_flags op.Bsf s a b n = scanned b n
-bit_flags op.Bsr s a b n = scanned b n
+bit_flags op.Bt s a b n = test_flags s a b n
+bit_flags op.Bts s a b n = test_flags s a b n
+bit_flags op.Btr s a b n = test_flags s a b n
+bit_flags op.Btc s a b n = test_flags s a b n
+bit_flags op.Bsf s a b n = scan_flags b n
+bit_flags op.Bsr s a b n = scan_flags b n

@@ -4,6 +4,31 @@ use Rattle.std.specs.Int.{bit_at}
 use Rattle.x86_alu.specs.declared.flags.Flags.{Flags}
 use Rattle.x86_alu.specs.Operand.{is_negative}
 
+-- their places in RFLAGS, and those of the interrupt and the direction flag (volume 1, section 3.4.3)
+abbrev pub CF : ℕ
+CF = 0
+
+abbrev pub PF : ℕ
+PF = 2
+
+abbrev pub AF : ℕ
+AF = 4
+
+abbrev pub ZF : ℕ
+ZF = 6
+
+abbrev pub SF : ℕ
+SF = 7
+
+abbrev pub IF : ℕ
+IF = 9
+
+abbrev pub DF : ℕ
+DF = 10
+
+abbrev pub OF : ℕ
+OF = 11
+
 -- what a truth value adds as a bit
 abbrev pub bit : Bool → ℕ
 bit true = 1
@@ -20,29 +45,29 @@ with_bit n i b = n / 2 ^ (i + 1) * 2 ^ (i + 1) + bit b * 2 ^ i + n % 2 ^ i
 -- RFLAGS with exactly these six flags replaced
 unfoldable pub with_flags : ℕ → Flags → ℕ
 with_flags n f =
-    with_bit (with_bit (with_bit (with_bit (with_bit (with_bit n 0 f.cf) 2 f.pf) 4 f.af) 6 f.zf) 7 f.sf) 11 f.of
+    with_bit (with_bit (with_bit (with_bit (with_bit (with_bit n CF f.cf) PF f.pf) AF f.af) ZF f.zf) SF f.sf) OF f.of
 
 -- what that means: the six flags are these, and every other bit stays
 pub record AreReplaced (old new : ℕ) (f : Flags) : Type 0 where
-  pub cf : is_set new 0 ≡ f.cf
-  pub pf : is_set new 2 ≡ f.pf
-  pub af : is_set new 4 ≡ f.af
-  pub zf : is_set new 6 ≡ f.zf
-  pub sf : is_set new 7 ≡ f.sf
-  pub of : is_set new 11 ≡ f.of
-  pub others : (i : ℕ) → i ≢ 0 → i ≢ 2 → i ≢ 4 → i ≢ 6 → i ≢ 7 → i ≢ 11 → is_set new i ≡ is_set old i
+  pub cf : is_set new CF ≡ f.cf
+  pub pf : is_set new PF ≡ f.pf
+  pub af : is_set new AF ≡ f.af
+  pub zf : is_set new ZF ≡ f.zf
+  pub sf : is_set new SF ≡ f.sf
+  pub of : is_set new OF ≡ f.of
+  pub others : (i : ℕ) → i ≢ CF → i ≢ PF → i ≢ AF → i ≢ ZF → i ≢ SF → i ≢ OF → is_set new i ≡ is_set old i
 
 -- RFLAGS with CF and OF replaced
 unfoldable pub with_carry_overflow : ℕ → Bool → Bool → ℕ
-with_carry_overflow n cf of = with_bit (with_bit n 0 cf) 11 of
+with_carry_overflow n cf of = with_bit (with_bit n CF cf) OF of
 
 -- the carry flag
 abbrev pub carry_of : ℕ → Bool
-carry_of n = is_set n 0
+carry_of n = is_set n CF
 
 -- the zero flag
 abbrev pub zero_of : ℕ → Bool
-zero_of n = is_set n 6
+zero_of n = is_set n ZF
 
 -- the low byte has an even number of ones
 unfoldable pub is_parity_even : ℕ → Bool

@@ -1,8 +1,10 @@
 -- Shifts and rotates of an operand a of s bits by n.
 -- Source: Intel SDM volume 2, the pages of SAL, SAR, SHL, SHR and of RCL, RCR, ROL, ROR.
-use Rattle.std.specs.Prelude.{◌≡◌, ◌⊎◌, ℕ, ◌+◌, ◌-◌, ◌*◌, ◌/◌, ◌%◌, ◌^◌, Bool, true, false, not, ◌&&◌, nat_lt, ◌==◌, if◌then◌else◌}
+use Rattle.std.specs.Prelude.{ℕ, ◌+◌, ◌-◌, ◌*◌, ◌/◌, ◌%◌, ◌^◌, Bool, true, false, not, ◌&&◌, nat_lt, ◌==◌, if◌then◌else◌}
 use Rattle.vm_law.specs.declared.insn.Width.{Width}
 use Rattle.vm_law.specs.declared.insn.Width.TheVariants.{B, W, D, Q}
+use Rattle.vm_law.specs.declared.insn.ShiftOp.{ShiftOp}
+use Rattle.vm_law.specs.declared.insn.ShiftOp.TheVariants.{Rol, Ror, Shl, Shr, Sar}
 use Rattle.x86_alu.specs.declared.flags.Flags.{Flags}
 use Rattle.x86_alu.specs.Operand.{size_of, is_negative, signed, residue, floored}
 use Rattle.x86_alu.specs.Flags.{is_set, of_result, with_flags, with_carry_overflow}
@@ -72,37 +74,31 @@ shr_flags s a r n = record (of_result (2 ^ s) r) { cf = shr_carry s a n; of = n 
 unfoldable pub sar_flags : ℕ → ℕ → ℕ → ℕ → Flags
 sar_flags s a r n = record (of_result (2 ^ s) r) { cf = sar_carry s a n }
 
--- the instructions by their numbers: ROL 0, ROR 1, SHL 4, SHR 5, SAR 7
-abbrev pub IsShift : ℕ → Type 0
-IsShift k = (k ≡ 0) ⊎ (k ≡ 1) ⊎ (k ≡ 4) ⊎ (k ≡ 5) ⊎ (k ≡ 7)
-
 -- the operand after
-unfoldable pub shifted : ℕ → ℕ → ℕ → ℕ → ℕ
-shifted k s a n =
-    if k == 0 then rol_of s a n
-    else (if k == 1 then ror_of s a n
-    else (if k == 4 then shl_of s a n
-    else (if k == 5 then shr_of a n
-    else sar_of s a n)))
+unfoldable pub shifted : ShiftOp → ℕ → ℕ → ℕ → ℕ
+shifted Rol s a n = rol_of s a n
+shifted Ror s a n = ror_of s a n
+shifted Shl s a n = shl_of s a n
+shifted Shr s a n = shr_of a n
+shifted Sar s a n = sar_of s a n
 
 -- RFLAGS after, r being the operand after
-unfoldable pub flags_moved : ℕ → ℕ → ℕ → ℕ → ℕ → ℕ → ℕ
-flags_moved k s a r n old =
-    if k == 0 then rol_flags s r n old
-    else (if k == 1 then ror_flags s r n old
-    else (if k == 4 then with_flags old (shl_flags s a r n)
-    else (if k == 5 then with_flags old (shr_flags s a r n)
-    else with_flags old (sar_flags s a r n))))
+unfoldable pub flags_moved : ShiftOp → ℕ → ℕ → ℕ → ℕ → ℕ → ℕ
+flags_moved Rol s a r n old = rol_flags s r n old
+flags_moved Ror s a r n old = ror_flags s r n old
+flags_moved Shl s a r n old = with_flags old (shl_flags s a r n)
+flags_moved Shr s a r n old = with_flags old (shr_flags s a r n)
+flags_moved Sar s a r n old = with_flags old (sar_flags s a r n)
 
 -- the count that is used
 abbrev pub count_of : Width → ℕ → ℕ
 count_of w count = count % count_modulus w
 
-abbrev pub shift_result : ℕ → Width → ℕ → ℕ → ℕ
-shift_result k w a count = shifted k (size_of w) a (count_of w count)
+abbrev pub shift_result : ShiftOp → Width → ℕ → ℕ → ℕ
+shift_result op w a count = shifted op (size_of w) a (count_of w count)
 
 -- a count of 0 changes no flag
-unfoldable pub shift_flags : ℕ → Width → ℕ → ℕ → ℕ → ℕ
-shift_flags k w a count old =
+unfoldable pub shift_flags : ShiftOp → Width → ℕ → ℕ → ℕ → ℕ
+shift_flags op w a count old =
     if count_of w count == 0 then old
-    else flags_moved k (size_of w) a (shift_result k w a count) (count_of w count) old
+    else flags_moved op (size_of w) a (shift_result op w a count) (count_of w count) old

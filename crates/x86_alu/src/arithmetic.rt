@@ -9,6 +9,7 @@ use crate::operand::{is_negative, mask_of, size_of, truncated};
 use vm_law::Width;
 
 // A sum of two numbers of one sign has the other sign.
+#[inline(always)]
 fn sum_overflows(width: Width, a: u64, b: u64, carry: bool, sum: u64) -> bool
     requires a_fits { a < span width }
     requires b_fits { b < span width }
@@ -20,6 +21,7 @@ fn sum_overflows(width: Width, a: u64, b: u64, carry: bool, sum: u64) -> bool
 }
 
 /// The sum of two operands and a carry, and its flags.
+#[inline(always)]
 #[tactic(auto, unfolding(crate::specs::Arithmetic::added))]
 fn added(width: Width, a: u64, b: u64, carry: bool) -> (u64, Flags)
     requires a_fits { a < span width }
@@ -40,6 +42,7 @@ fn added(width: Width, a: u64, b: u64, carry: bool) -> (u64, Flags)
 }
 
 // A difference of two numbers of different signs has the second one's sign.
+#[inline(always)]
 fn difference_overflows(width: Width, a: u64, b: u64, borrow: bool, difference: u64) -> bool
     requires a_fits { a < span width }
     requires b_fits { b < span width }
@@ -51,6 +54,7 @@ fn difference_overflows(width: Width, a: u64, b: u64, borrow: bool, difference: 
 }
 
 /// The difference of two operands and a borrow, and its flags.
+#[inline(always)]
 #[tactic(auto, unfolding(crate::specs::Arithmetic::subtracted))]
 fn subtracted(width: Width, a: u64, b: u64, borrow: bool) -> (u64, Flags)
     requires a_fits { a < span width }
@@ -74,6 +78,7 @@ fn subtracted(width: Width, a: u64, b: u64, borrow: bool) -> (u64, Flags)
 }
 
 // A bitwise result with its flags.
+#[inline(always)]
 fn bitwise(width: Width, word: u64) -> (u64, Flags)
     requires { word < span width }
     ensures word { result.0 ≡ word }
@@ -83,6 +88,7 @@ fn bitwise(width: Width, word: u64) -> (u64, Flags)
 }
 
 // The same answer with another carry flag.
+#[inline(always)]
 fn keeping_carry(carry: bool, answer: (u64, Flags)) -> (u64, Flags)
     ensures word { result.0 ≡ answer.0 }
     ensures flags { result.1 ≡ record answer.1 { cf = carry } }
@@ -97,11 +103,42 @@ fn keeping_carry(carry: bool, answer: (u64, Flags)) -> (u64, Flags)
 }
 
 // An answer with its flags written into RFLAGS.
+#[inline(always)]
 fn finished(rflags: u64, answer: (u64, Flags)) -> (u64, u64)
     ensures word { result.0 ≡ answer.0 }
     ensures flags { result.1 ≡ with_flags rflags answer.1 }
 {
     (answer.0, with_flags(rflags, answer.1))
+}
+
+// A sum with its flags in RFLAGS. Each width has code of its own.
+fn sum_in(width: Width, a: u64, b: u64, carry: bool, rflags: u64) -> (u64, u64)
+    requires a_fits { a < span width }
+    requires b_fits { b < span width }
+    ensures sum { result.0 ≡ sum_of (span width) a b (bit carry) }
+    ensures flags { result.1 ≡ with_flags rflags (added (span width) a b (bit carry)) }
+{
+    match width {
+        Width::B => finished(rflags, added(Width::B, a, b, carry)),
+        Width::W => finished(rflags, added(Width::W, a, b, carry)),
+        Width::D => finished(rflags, added(Width::D, a, b, carry)),
+        Width::Q => finished(rflags, added(Width::Q, a, b, carry)),
+    }
+}
+
+// A difference with its flags in RFLAGS. Each width has code of its own.
+fn difference_in(width: Width, a: u64, b: u64, borrow: bool, rflags: u64) -> (u64, u64)
+    requires a_fits { a < span width }
+    requires b_fits { b < span width }
+    ensures difference { result.0 ≡ difference_of (span width) a b (bit borrow) }
+    ensures flags { result.1 ≡ with_flags rflags (subtracted (span width) a b (bit borrow)) }
+{
+    match width {
+        Width::B => finished(rflags, subtracted(Width::B, a, b, borrow)),
+        Width::W => finished(rflags, subtracted(Width::W, a, b, borrow)),
+        Width::D => finished(rflags, subtracted(Width::D, a, b, borrow)),
+        Width::Q => finished(rflags, subtracted(Width::Q, a, b, borrow)),
+    }
 }
 
 /// The result of an operation on operands of `width`, and RFLAGS after it.
@@ -119,15 +156,15 @@ pub fn alu(op: AluOp, width: Width, a: u64, b: u64, flags: u64) -> (u64, u64)
 {
     let carry = is_set(flags, CF);
     match op {
-        AluOp::Add => finished(flags, added(width, a, b, false)),
-        AluOp::Adc => finished(flags, added(width, a, b, carry)),
-        AluOp::Sub | AluOp::Cmp => finished(flags, subtracted(width, a, b, false)),
-        AluOp::Sbb => finished(flags, subtracted(width, a, b, carry)),
+        AluOp::Add => sum_in(width, a, b, false, flags),
+        AluOp::Adc => sum_in(width, a, b, carry, flags),
+        AluOp::Sub | AluOp::Cmp => difference_in(width, a, b, false, flags),
+        AluOp::Sbb => difference_in(width, a, b, carry, flags),
         AluOp::And | AluOp::Test => finished(flags, bitwise(width, a & b)),
         AluOp::Or => finished(flags, bitwise(width, a | b)),
         AluOp::Xor => finished(flags, bitwise(width, a ^ b)),
         AluOp::Not => (mask_of(width) - a, flags),
-        AluOp::Neg => finished(flags, subtracted(width, 0, a, false)),
+        AluOp::Neg => difference_in(width, 0, a, false, flags),
         AluOp::Inc => finished(flags, keeping_carry(carry, added(width, a, 1, false))),
         AluOp::Dec => finished(flags, keeping_carry(carry, subtracted(width, a, 1, false))),
     }

@@ -1,6 +1,6 @@
 ghost use Rattle.std.specs.Prelude.{◌≡◌, ◌≢◌, ◌+◌, ◌<◌, ◌==◌, if◌then◌else◌};
 ghost use Rattle.x86_alu.specs.Operand.{size_of, span};
-ghost use Rattle.x86_alu.specs.BitTest.{IsLowestOne, IsHighestOne, lowest_one, highest_one, bit_result, tested, scanned, bit_flags};
+ghost use Rattle.x86_alu.specs.BitTest.{IsLowestOne, IsHighestOne, lowest_one, highest_one, bit_result, test_flags, scan_flags, bit_flags};
 
 use crate::flags::{CLEAR, Flags, ZF, is_set, with_bit, with_flags};
 use crate::op::BitOp;
@@ -8,9 +8,9 @@ use crate::operand::size_of;
 use vm_law::Width;
 
 // RFLAGS after a test of a bit.
-#[tactic(auto, unfolding(crate::specs::BitTest::tested))]
-fn tested(width: Width, a: u64, index: u64, flags: u64) -> u64
-    ensures { result ≡ tested (size_of width) a index flags }
+#[tactic(auto, unfolding(crate::specs::BitTest::test_flags))]
+fn test_flags(width: Width, a: u64, index: u64, flags: u64) -> u64
+    ensures { result ≡ test_flags (size_of width) a index flags }
 {
     let place = (index % u64::from(size_of(width))) as u32;
     with_flags(
@@ -24,9 +24,9 @@ fn tested(width: Width, a: u64, index: u64, flags: u64) -> u64
 }
 
 // RFLAGS after a scan.
-#[tactic(auto, unfolding(crate::specs::BitTest::scanned))]
-fn scanned(source: u64, flags: u64) -> u64
-    ensures { result ≡ scanned source flags }
+#[tactic(auto, unfolding(crate::specs::BitTest::scan_flags))]
+fn scan_flags(source: u64, flags: u64) -> u64
+    ensures { result ≡ scan_flags source flags }
 {
     with_flags(
         flags,
@@ -80,14 +80,14 @@ pub fn bits(op: BitOp, width: Width, a: u64, b: u64, flags: u64) -> (u64, u64)
 {
     let place = (b % u64::from(size_of(width))) as u32;
     match op {
-        BitOp::Bt => (a, tested(width, a, b, flags)),
-        BitOp::Bts => (with_bit(a, place, true), tested(width, a, b, flags)),
-        BitOp::Btr => (with_bit(a, place, false), tested(width, a, b, flags)),
+        BitOp::Bt => (a, test_flags(width, a, b, flags)),
+        BitOp::Bts => (with_bit(a, place, true), test_flags(width, a, b, flags)),
+        BitOp::Btr => (with_bit(a, place, false), test_flags(width, a, b, flags)),
         BitOp::Btc => (
             with_bit(a, place, !is_set(a, place)),
-            tested(width, a, b, flags),
+            test_flags(width, a, b, flags),
         ),
-        BitOp::Bsf => (scan_forward(a, b), scanned(b, flags)),
-        BitOp::Bsr => (scan_reverse(a, b), scanned(b, flags)),
+        BitOp::Bsf => (scan_forward(a, b), scan_flags(b, flags)),
+        BitOp::Bsr => (scan_reverse(a, b), scan_flags(b, flags)),
     }
 }

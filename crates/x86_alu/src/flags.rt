@@ -46,6 +46,7 @@ const SF: u32 = 7;
 const OF: u32 = 11;
 
 /// Whether bit `place` of a word is 1.
+#[inline(always)]
 pub(crate) fn is_set(word: u64, place: u32) -> bool
     requires { place < 64 }
     ensures { result ≡ is_set word place }
@@ -54,6 +55,7 @@ pub(crate) fn is_set(word: u64, place: u32) -> bool
 }
 
 /// A word with its bit `place` set or cleared.
+#[inline(always)]
 pub(crate) fn with_bit(word: u64, place: u32, on: bool) -> u64
     requires { place < 64 }
     ensures { result ≡ with_bit word place on }
@@ -63,6 +65,7 @@ pub(crate) fn with_bit(word: u64, place: u32, on: bool) -> u64
 }
 
 /// RFLAGS with the six flags replaced.
+#[inline(always)]
 #[tactic(auto, unfolding(crate::specs::Flags::with_flags))]
 pub(crate) fn with_flags(rflags: u64, flags: Flags) -> u64
     ensures { result ≡ with_flags rflags flags }
@@ -83,6 +86,7 @@ pub(crate) fn with_carry_overflow(rflags: u64, cf: bool, of: bool) -> u64
     with_bit(with_bit(rflags, CF, cf), OF, of)
 }
 
+#[inline(always)]
 fn is_parity_even(result_word: u64) -> bool
     ensures { result ≡ is_parity_even result_word }
 {
@@ -90,6 +94,7 @@ fn is_parity_even(result_word: u64) -> bool
 }
 
 /// ZF, SF and PF by a result; the other three are clear.
+#[inline(always)]
 #[tactic(auto, unfolding(crate::specs::Flags::of_result))]
 pub(crate) fn of_result(width: Width, word: u64) -> Flags
     requires { word < span width }

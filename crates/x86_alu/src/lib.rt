@@ -23,6 +23,4 @@ pub use product::{div, mul};
 pub use shifts::shift;
 
 #[cfg(test)]
-mod cases;
-#[cfg(test)]
 mod tests;

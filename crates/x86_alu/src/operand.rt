@@ -4,6 +4,7 @@ ghost use Rattle.x86_alu.specs.Operand.{size_of, span, is_negative};
 use vm_law::Width;
 
 /// How many bits an operand has.
+#[inline(always)]
 pub(crate) fn size_of(width: Width) -> u32
     ensures { result ≡ size_of width }
 {
@@ -16,6 +17,7 @@ pub(crate) fn size_of(width: Width) -> u32
 }
 
 /// The greatest operand: a one in each bit.
+#[inline(always)]
 pub(crate) fn mask_of(width: Width) -> u64
     ensures { result + 1 ≡ span width }
 {
@@ -28,6 +30,7 @@ pub(crate) fn mask_of(width: Width) -> u64
 }
 
 /// The low bits of a number, as many as an operand has.
+#[inline(always)]
 pub(crate) fn truncated(width: Width, number: u128) -> u64
     ensures { result ≡ number % span width }
 {
@@ -35,6 +38,7 @@ pub(crate) fn truncated(width: Width, number: u128) -> u64
 }
 
 /// The top bit.
+#[inline(always)]
 pub(crate) fn is_negative(width: Width, a: u64) -> bool
     requires { a < span width }
     ensures { result ≡ is_negative (span width) a }

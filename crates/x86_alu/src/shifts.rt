@@ -1,10 +1,10 @@
 ghost use Rattle.std.specs.Prelude.{◌≡◌, ◌+◌, ◌-◌, ◌*◌, ◌/◌, ◌%◌, ◌^◌, ◌<◌, ◌≤◌, ◌==◌, ◌&&◌};
 ghost use Rattle.x86_alu.specs.Operand.{size_of, span};
-ghost use Rattle.x86_alu.specs.Shift.{IsShift, differ, count_of, shl_of, shr_of, sar_of, rol_of, ror_of, shl_carry, shr_carry, sar_carry, rol_flags, ror_flags, shl_flags, shr_flags, sar_flags, shifted, flags_moved, shift_result, shift_flags};
+ghost use Rattle.x86_alu.specs.Shift.{differ, count_of, shl_of, shr_of, sar_of, rol_of, ror_of, shl_carry, shr_carry, sar_carry, rol_flags, ror_flags, shl_flags, shr_flags, sar_flags, shifted, flags_moved, shift_result, shift_flags};
 
 use crate::flags::{Flags, is_set, of_result, with_carry_overflow, with_flags};
 use crate::operand::{is_negative, mask_of, size_of, truncated};
-use vm_law::Width;
+use vm_law::{ShiftOp, Width};
 
 /// A shift's count modulo 32, or 64 at width 64.
 fn count_of(width: Width, count: u8) -> u32
@@ -175,57 +175,55 @@ fn sar_flags(width: Width, a: u64, word: u64, n: u32) -> Flags
 
 // The operand after a shift or rotate.
 #[tactic(auto, unfolding(crate::specs::Shift::shifted))]
-fn shifted(k: u8, width: Width, a: u64, n: u32) -> u64
+fn shifted(op: ShiftOp, width: Width, a: u64, n: u32) -> u64
     requires a_fits { a < span width }
     requires count { n < 64 }
-    ensures result { result ≡ shifted k (size_of width) a n }
+    ensures result { result ≡ shifted op (size_of width) a n }
     ensures fits { result < span width }
 {
-    match k {
-        0 => rol(width, a, n),
-        1 => ror(width, a, n),
-        4 => shl(width, a, n),
-        5 => a >> n,
-        _ => sar(width, a, n),
+    match op {
+        ShiftOp::Rol => rol(width, a, n),
+        ShiftOp::Ror => ror(width, a, n),
+        ShiftOp::Shl => shl(width, a, n),
+        ShiftOp::Shr => a >> n,
+        ShiftOp::Sar => sar(width, a, n),
     }
 }
 
 // RFLAGS after a shift or rotate by a count that is not 0; `word` is the operand after it.
 #[tactic(auto, unfolding(crate::specs::Shift::flags_moved))]
-fn flags_moved(k: u8, width: Width, a: u64, word: u64, n: u32, flags: u64) -> u64
+fn flags_moved(op: ShiftOp, width: Width, a: u64, word: u64, n: u32, flags: u64) -> u64
     requires some { 0 < n }
     requires count { n < 64 }
     requires a_fits { a < span width }
     requires fits { word < span width }
-    ensures { result ≡ flags_moved k (size_of width) a word n flags }
+    ensures { result ≡ flags_moved op (size_of width) a word n flags }
 {
-    match k {
-        0 => rol_flags(width, word, n, flags),
-        1 => ror_flags(width, word, n, flags),
-        4 => with_flags(flags, shl_flags(width, a, word, n)),
-        5 => with_flags(flags, shr_flags(width, a, word, n)),
-        _ => with_flags(flags, sar_flags(width, a, word, n)),
+    match op {
+        ShiftOp::Rol => rol_flags(width, word, n, flags),
+        ShiftOp::Ror => ror_flags(width, word, n, flags),
+        ShiftOp::Shl => with_flags(flags, shl_flags(width, a, word, n)),
+        ShiftOp::Shr => with_flags(flags, shr_flags(width, a, word, n)),
+        ShiftOp::Sar => with_flags(flags, sar_flags(width, a, word, n)),
     }
 }
 
 /// A shift or rotate of `a` by a count, and RFLAGS after it, `flags` being RFLAGS before.
 ///
-/// `k` is ROL 0, ROR 1, SHL 4, SHR 5 or SAR 7. The count is taken modulo 32, or 64 at width 64, and a count that is
-/// then 0 changes no flag. Rotates change CF and OF alone; no operation changes a bit that isn't one of the six status
+/// The count is taken modulo 32, or 64 at width 64, and a count that is then 0 changes no flag. Rotates change CF and OF alone; no operation changes a bit that isn't one of the six status
 /// flags. What the processor leaves undefined is clear: AF of a shift, OF at a count other than 1, and CF of SHL and
 /// SHR at a count that isn't below the width. Source: Intel SDM volume 2, SAL/SAR/SHL/SHR and RCL/RCR/ROL/ROR.
 #[tactic(auto, unfolding(crate::specs::Shift::shift_flags))]
-pub fn shift(k: u8, width: Width, a: u64, count: u8, flags: u64) -> (u64, u64)
-    requires known { IsShift k }
-    requires a_fits { a < span width }
-    ensures result { result.0 ≡ shift_result k width a count }
+pub fn shift(op: ShiftOp, width: Width, a: u64, count: u8, flags: u64) -> (u64, u64)
+    requires { a < span width }
+    ensures result { result.0 ≡ shift_result op width a count }
     ensures fits { result.0 < span width }
-    ensures flags { result.1 ≡ shift_flags k width a count flags }
+    ensures flags { result.1 ≡ shift_flags op width a count flags }
 {
     let n = count_of(width, count);
-    let word = shifted(k, width, a, n);
+    let word = shifted(op, width, a, n);
     if n == 0 {
         return (word, flags);
     }
-    (word, flags_moved(k, width, a, word, n, flags))
+    (word, flags_moved(op, width, a, word, n, flags))
 }

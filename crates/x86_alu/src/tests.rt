@@ -1,100 +1,45 @@
-ghost use Rattle.std.specs.Prelude.{◌<◌};
-ghost use Rattle.x86_alu.specs.Operand.{span};
-
-use crate::cases::{ALU, BITS, PRODUCTS, QUOTIENTS, SHIFTS};
-use crate::operand::mask_of;
-use crate::{Flags, alu, bits, div, mul, only_these_change, shift};
-use vm_law::Width;
+//! Each call once. What a processor answers to some 600 operations are cases of the program `x86_cases`.
+use crate::{AluOp, BitOp, Flags, alu, bits, div, mul, only_these_change, shift};
+use vm_law::{ShiftOp, Width};
 
 // Every bit of RFLAGS but the six status flags: no call reads or changes one of them.
 const OTHERS: u64 = 0xFFFF_FFFF_FFFF_F72A;
 
+// 0x7F + 0x80 and the carry is 0x100: CF, PF, AF and ZF are set.
 #[test]
-fn operations_as_a_processor_does_them(rt: HostRuntime) {
-    for (row, &(op, width, a, b, flags, word, after)) in ALU.iter().enumerate() {
-        let mask = mask_of(width);
-        assert!(rt; a <= mask && b <= mask);
-        let answer = alu(op, width, a, b, flags);
-        assert!(rt; answer.0 == word && answer.1 == after, "row {row}");
-        let answer = alu(op, width, a, b, flags | OTHERS);
-        assert!(rt; answer.0 == word && answer.1 == after | OTHERS, "row {row}");
-    }
+fn a_sum_with_its_carry(rt: HostRuntime) {
+    let (word, flags) = alu(AluOp::Adc, Width::B, 0x7F, 0x80, OTHERS | 1);
+    assert!(rt; word == 0 && flags == OTHERS | 0x55);
 }
 
-// The shift or rotate that a number names.
-fn any_shift(k: u8, width: Width, a: u64, count: u8, flags: u64) -> (u64, u64)
-    requires { a < span width }
-{
-    match k {
-        0 => shift(0, width, a, count, flags),
-        1 => shift(1, width, a, count, flags),
-        4 => shift(4, width, a, count, flags),
-        5 => shift(5, width, a, count, flags),
-        _ => shift(7, width, a, count, flags),
-    }
+// SHL of 32 ones by 33 moves one place: CF and SF are set.
+#[test]
+fn a_shift_by_its_count_modulo_the_width(rt: HostRuntime) {
+    let (word, flags) = shift(ShiftOp::Shl, Width::D, 0xFFFF_FFFF, 33, OTHERS);
+    assert!(rt; word == 0xFFFF_FFFE && flags == OTHERS | 0x81);
 }
 
+// -2 times 128 is -256, which doesn't fit a byte: CF and OF are set.
 #[test]
-fn shifts_as_a_processor_does_them(rt: HostRuntime) {
-    for (row, &(k, width, a, count, flags, word, after)) in SHIFTS.iter().enumerate() {
-        assert!(rt; a <= mask_of(width));
-        let answer = any_shift(k, width, a, count, flags);
-        assert!(rt; answer.0 == word && answer.1 == after, "row {row}");
-        let answer = any_shift(k, width, a, count, flags | OTHERS);
-        assert!(rt; answer.0 == word && answer.1 == after | OTHERS, "row {row}");
-    }
-    // SHL of 32 ones by 33 moves one place: CF and SF are set.
-    let (word, flags) = shift(4, Width::D, 0xFFFF_FFFF, 33, 0);
-    assert!(rt; word == 0xFFFF_FFFE && flags == 0x81);
+fn a_signed_product(rt: HostRuntime) {
+    let (lower, upper, flags) = mul(true, Width::B, 0xFE, 0x80, OTHERS);
+    assert!(rt; lower == 0 && upper == 1 && flags == OTHERS | 0x801);
 }
 
+// -7 by 2 is -3, and -1 remains.
 #[test]
-fn products_as_a_processor_has_them(rt: HostRuntime) {
-    for (row, &(signed, width, a, b, flags, lower, upper, after)) in PRODUCTS.iter().enumerate() {
-        let mask = mask_of(width);
-        assert!(rt; a <= mask && b <= mask);
-        let answer = mul(signed, width, a, b, flags | OTHERS);
-        assert!(rt; answer.0 == lower && answer.1 == upper, "row {row}");
-        assert!(rt; answer.2 == after | OTHERS, "row {row}");
-    }
+fn a_signed_quotient(rt: HostRuntime) {
+    let answer = div(true, Width::W, 0xFFFF, 0xFFF9, 2, OTHERS | 0x8D5);
+    assert!(rt; answer == Some((0xFFFD, 0xFFFF, OTHERS)));
+    assert!(rt; div(false, Width::W, 0, 5, 0, 0).is_none());
 }
 
+// Bit 35 is bit 3 at 32 bits.
 #[test]
-fn quotients_as_a_processor_has_them(rt: HostRuntime) {
-    for (row, &(signed, width, high, low, by, flags, some, quotient, remainder)) in QUOTIENTS
-        .iter()
-        .enumerate()
-    {
-        let mask = mask_of(width);
-        assert!(rt; high <= mask && low <= mask && by <= mask);
-        match div(signed, width, high, low, by, flags | OTHERS) {
-            Some(answer) => {
-                assert!(rt;
-                    some && answer.0 == quotient && answer.1 == remainder,
-                    "row {row}"
-                );
-                assert!(rt; answer.2 == OTHERS, "row {row}");
-            }
-            None => assert!(rt; !some, "row {row}"),
-        }
-    }
-}
-
-#[test]
-fn bit_tests_as_a_processor_does_them(rt: HostRuntime) {
-    for (row, &(op, width, a, b, flags, word, after)) in BITS.iter().enumerate() {
-        let mask = mask_of(width);
-        assert!(rt; a <= mask && b <= mask);
-        match width {
-            Width::B => panic!(rt; "no bit test has eight bits"),
-            _ => {
-                let answer = bits(op, width, a, b, flags);
-                assert!(rt; answer.0 == word && answer.1 == after, "row {row}");
-                let answer = bits(op, width, a, b, flags | OTHERS);
-                assert!(rt; answer.0 == word && answer.1 == after | OTHERS, "row {row}");
-            }
-        }
-    }
+fn a_test_and_a_scan(rt: HostRuntime) {
+    let (word, flags) = bits(BitOp::Btr, Width::D, 0xF, 35, OTHERS | 0x40);
+    assert!(rt; word == 7 && flags == OTHERS | 0x41);
+    assert!(rt; bits(BitOp::Bsf, Width::Q, 0, 0x80, OTHERS) == (7, OTHERS));
 }
 
 #[test]

@@ -1,6 +1,6 @@
-use std::alloc::{AllocError, Global};
+use std::alloc::{AllocError, AllocFailed, Global};
 use thiserror::Error;
-use vm_law::{Ctx, OutOfMemory};
+use vm_law::Ctx;
 
 /// The parts of a context, in the order in which they are printed.
 pub const NAMES: [&str; 22] = [
@@ -8,14 +8,36 @@ pub const NAMES: [&str; 22] = [
     "r14", "r15", "rip", "rflags", "idtbase", "idtlimit", "shadow", "nmiblock",
 ];
 
-/// A case: an instruction's bytes, the context and memory before it, and what a port or a device answers.
+/// What a case runs.
+#[derive(Drop)]
+pub enum Event {
+    /// The instruction with these bytes.
+    Instruction(Vec<u8>),
+    /// The delivery of a vector.
+    Delivery(u8),
+}
+
+/// Bytes of memory from an address on.
+#[derive(Drop)]
+pub struct Piece {
+    pub at: u64,
+    pub bytes: Vec<u8>,
+}
+
+/// A case: what is run, the context and memory before it, and what the machine around the vCPU has for it.
 #[derive(Drop)]
 pub struct Case {
-    pub insn: Vec<u8>,
+    pub event: Event,
     pub ctx: Ctx,
-    pub at: u64,
-    pub memory: Vec<u8>,
+    pub memory: Vec<Piece>,
+    /// What a port or a device answers.
     pub answer: u32,
+    /// The error code of a delivery.
+    pub error: Option<u64>,
+    /// Whether a delivery is an NMI.
+    pub nmi: bool,
+    /// Whether to print which bytes are stored.
+    pub stored: bool,
 }
 
 /// Why a case wasn't run.
@@ -33,8 +55,8 @@ impl From<AllocError> for CaseError {
     }
 }
 
-impl From<OutOfMemory> for CaseError {
-    fn from(_error: OutOfMemory) -> CaseError {
+impl<T: Drop> From<AllocFailed<T>> for CaseError {
+    fn from(_error: AllocFailed<T>) -> CaseError {
         CaseError::Memory
     }
 }
@@ -54,6 +76,15 @@ fn number_of(digits: &str) -> Result<u64, CaseError> {
         Ok(number) => Ok(number),
         Err(_) => Err(CaseError::Form),
     }
+}
+
+/// What the first word of a case says.
+fn event_of(alloc: Global, word: &str) -> Result<Event, CaseError> {
+    let Some(("deliver", digits)) = word.split_once('=') else {
+        return Ok(Event::Instruction(bytes_of(alloc, word)?));
+    };
+    let vector = u8::try_from(number_of(digits)?).map_err(|_| CaseError::Form)?;
+    Ok(Event::Delivery(vector))
 }
 
 /// The context of a case that names no part of it.
@@ -91,33 +122,54 @@ pub fn parts(ctx: &Ctx) -> [u64; 22] {
 impl Case {
     /// The case that a line states.
     pub fn parse(alloc: Global, line: &str) -> Result<Case, CaseError> {
+        let mut words = line.split(' ');
+        let first = words.next().ok_or(CaseError::Form)?;
         let mut case = Case {
-            insn: Vec::new(alloc),
+            event: event_of(alloc, first)?,
             ctx: plain(),
-            at: 0,
             memory: Vec::new(alloc),
             answer: 0,
+            error: None,
+            nmi: false,
+            stored: false,
         };
-        for (place, word) in line.split(' ').enumerate() {
-            if place == 0 {
-                case.insn = bytes_of(alloc, word)?;
-            } else if let Some((name, digits)) = word.split_once('=') {
-                case.set(name, number_of(digits)?)?;
-            } else {
-                let (at, digits) = word.split_once(':').ok_or(CaseError::Form)?;
-                case.at = number_of(at)?;
-                case.memory = bytes_of(alloc, digits)?;
-            }
+        for word in words {
+            case.add(alloc, word)?;
         }
         Ok(case)
     }
 
-    /// Sets the part of the context that has this name, or the answer.
-    fn set(&mut self, name: &str, value: u64) -> Result<(), CaseError> {
-        if name == "answer" {
-            self.answer = u32::try_from(value).map_err(|_| CaseError::Form)?;
+    /// Adds what a word states.
+    fn add(&mut self, alloc: Global, word: &str) -> Result<(), CaseError> {
+        if word == "stored" {
+            self.stored = true;
             return Ok(());
         }
+        if let Some((name, digits)) = word.split_once('=') {
+            return self.set(name, number_of(digits)?);
+        }
+        let (at, digits) = word.split_once(':').ok_or(CaseError::Form)?;
+        let piece = Piece {
+            at: number_of(at)?,
+            bytes: bytes_of(alloc, digits)?,
+        };
+        self.memory.push(piece)?;
+        Ok(())
+    }
+
+    /// Sets what has this name.
+    fn set(&mut self, name: &str, value: u64) -> Result<(), CaseError> {
+        match name {
+            "answer" => self.answer = u32::try_from(value).map_err(|_| CaseError::Form)?,
+            "error" => self.error = Some(value),
+            "nmi" => self.nmi = value != 0,
+            _ => self.set_part(name, value)?,
+        }
+        Ok(())
+    }
+
+    /// Sets the part of the context that has this name.
+    fn set_part(&mut self, name: &str, value: u64) -> Result<(), CaseError> {
         match NAMES.iter().position(|known| *known == name) {
             Some(16) => self.ctx.rip = value,
             Some(17) => self.ctx.rflags = value,

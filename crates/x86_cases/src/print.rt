@@ -1,10 +1,10 @@
-use crate::case::{Case, NAMES, parts};
-use guest_ram::GuestRam;
+use crate::case::{Case, NAMES, Piece, parts};
+use crate::ram::Ram;
 use std::alloc::{AllocError, Global};
 use std::fmt::Write;
 use vm_bus::Area;
 use vm_law::{Bytes, Ctx, Stop, Width};
-use x86_exec::Effect;
+use x86_exec::{Effect, Stored};
 
 /// A width in bits.
 fn bits_of(width: Width) -> u8 {
@@ -16,16 +16,14 @@ fn bits_of(width: Width) -> u8 {
     }
 }
 
-/// The word for a Stop.
-fn stop_word(stop: Stop) -> &'static str {
+/// A Stop, with its vector where it has one.
+pub fn print_stop(stop: Stop, out: &mut String) -> Result<(), AllocError> {
     match stop {
-        Stop::Fetch => "fetch",
-        Stop::Memory => "memory",
-        Stop::CodeWrite => "code-write",
-        Stop::Device => "device",
-        Stop::Gate(_) => "gate",
-        Stop::Frame(_) => "frame",
-        Stop::NotBuilt => "not-built",
+        Stop::Fetch => out.push_str("stop fetch"),
+        Stop::Memory => out.push_str("stop memory"),
+        Stop::Device => out.push_str("stop device"),
+        Stop::Gate(vector) => write!(out, "stop gate {vector}"),
+        Stop::Frame(vector) => write!(out, "stop frame {vector}"),
     }
 }
 
@@ -54,7 +52,7 @@ pub fn print_effect(effect: &Effect, out: &mut String) -> Result<(), AllocError>
             vector,
             error: Some(error),
         } => write!(out, "trap {vector} {error:x}"),
-        Effect::Stop(stop) => write!(out, "stop {}", stop_word(*stop)),
+        Effect::Stop(stop) => print_stop(*stop, out),
         Effect::PortIn { port, width } => write!(out, "in {port:x} {}", bits_of(*width)),
         Effect::PortOut { port, width, value } => write!(
             out,
@@ -84,19 +82,40 @@ pub fn print_changes(before: &Ctx, after: &Ctx, out: &mut String) -> Result<(), 
     Ok(())
 }
 
-/// The memory of the case, where it names some.
-pub fn print_memory(
+/// Which bytes were stored.
+pub fn print_stored(stored: Option<Stored>, out: &mut String) -> Result<(), AllocError> {
+    match stored {
+        None => out.push_str(" stored nothing"),
+        Some(stored) => write!(out, " stored {:x} {}", stored.at, stored.len),
+    }
+}
+
+/// A piece of memory, as it is now.
+fn print_piece(
     alloc: Global,
-    case: &Case,
-    ram: &GuestRam,
+    piece: &Piece,
+    ram: &Ram,
     out: &mut String,
 ) -> Result<(), AllocError> {
-    let len = case.memory.len();
-    if len == 0 || ram.size() < case.at || ram.size() - case.at < len as u64 {
+    let len = piece.bytes.len();
+    if len == 0 || ram.size() < piece.at || ram.size() - piece.at < len as u64 {
         return Ok(());
     }
     let mut bytes = vec![in alloc; 0; len]?;
-    ram.read(case.at, bytes.as_mut_slice());
+    ram.read(piece.at, bytes.as_mut_slice());
     let digits = hex::encode(alloc, bytes.as_slice())?;
-    write!(out, " {:x}:{digits}", case.at)
+    write!(out, " {:x}:{digits}", piece.at)
+}
+
+/// The memory that the case names.
+pub fn print_memory(
+    alloc: Global,
+    case: &Case,
+    ram: &Ram,
+    out: &mut String,
+) -> Result<(), AllocError> {
+    for piece in &case.memory {
+        print_piece(alloc, piece, ram, out)?;
+    }
+    Ok(())
 }

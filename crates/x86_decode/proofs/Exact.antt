@@ -6,8 +6,9 @@ use Rattle.std.proofs.lemmas.List.{append-nil, length-append, length-drop, take_
 use Rattle.vm_law.specs.declared.insn.Insn.{Insn}
 use Rattle.x86_decode.specs.declared.fault.DecodeFault.{DecodeFault}
 use Rattle.x86_decode.specs.declared.fault.DecodeFault.TheVariants.{Short, Unknown}
-use Rattle.x86_decode.specs.Reading.{Read, insn_at, sized}
-use Rattle.vm_law.specs.Grammar.{IsBytes, Spelled, IsPartial, IsUnknown}
+use Rattle.byte_reader.specs.Reader.{Read, Reader, then_read, ◌>>=◌}
+use Rattle.x86_decode.specs.Reading.{insn_at, sized}
+use Rattle.x86_grammar.specs.Grammar.{IsBytes, Spelled, IsPartial, IsUnknown}
 use Rattle.x86_decode.proofs.Whole.{insn_reads}
 use Rattle.x86_decode.proofs.Lengths.{at_most_15}
 
@@ -22,7 +23,7 @@ read_length bs x b e =
 abbrev Answer : Type 0
 Answer = Result (Insn × ℕ) DecodeFault
 
-found_at : (bs : List ℕ) → IsBytes bs → (r : Read Insn) → insn_at bs ≡ r → IfOk (sized bs r) (λ x. (x.1 ≤ length bs) × Spelled (take x.1 bs) x.0)
+found_at : (bs : List ℕ) → IsBytes bs → (r : Read DecodeFault Insn) → insn_at bs ≡ r → IfOk (sized bs r) (λ x. (x.1 ≤ length bs) × Spelled (take x.1 bs) x.0)
 found_at bs b (Err d) e = tt
 found_at bs b (Ok x) e =
     let s = insn_reads.sound bs x b e in
@@ -42,31 +43,31 @@ only bs insn n le s =
     let c = insn_reads.complete insn (take n bs) (drop n bs) s in
     let whole : insn_at bs ≡ Ok (insn, drop n bs) = ap insn_at (sym (take-append-drop n bs)) ∙ c in
     let size : length bs - length (drop n bs) ≡ n = omega (arith, length-drop n bs) in
-    ap (λ (r : Read Insn). sized bs r) whole ∙ ap (λ (k : ℕ). answer insn k) size
+    ap (λ (r : Read DecodeFault Insn). sized bs r) whole ∙ ap (λ (k : ℕ). answer insn k) size
 
-same_fault : (f d : DecodeFault) → ◌≡◌ {A = Answer} (Err f) (Err d) → ◌≡◌ {A = Read Insn} (Err f) (Err d)
+same_fault : (f d : DecodeFault) → ◌≡◌ {A = Answer} (Err f) (Err d) → ◌≡◌ {A = Read DecodeFault Insn} (Err f) (Err d)
 same_fault f d e = cc
 
-sized_short : (bs : List ℕ) (r : Read Insn) (d : DecodeFault) → sized bs r ≡ Err d → r ≡ Err d
+sized_short : (bs : List ℕ) (r : Read DecodeFault Insn) (d : DecodeFault) → sized bs r ≡ Err d → r ≡ Err d
 sized_short bs (Ok x) d e = absurd cc
 sized_short bs (Err f) d e = same_fault f d e
 
-sized_err : (bs : List ℕ) (r : Read Insn) (d : DecodeFault) → r ≡ Err d → sized bs r ≡ Err d
-sized_err bs r d e = ap (λ (r : Read Insn). sized bs r) e
+sized_err : (bs : List ℕ) (r : Read DecodeFault Insn) (d : DecodeFault) → r ≡ Err d → sized bs r ≡ Err d
+sized_err bs r d e = ap (λ (r : Read DecodeFault Insn). sized bs r) e
 
-cases_read : (r : Read Insn) → ((x : Insn × List ℕ) × (r ≡ Ok x)) ⊎ ((r ≡ Err Short) ⊎ (r ≡ Err Unknown))
+cases_read : (r : Read DecodeFault Insn) → ((x : Insn × List ℕ) × (r ≡ Ok x)) ⊎ ((r ≡ Err Short) ⊎ (r ≡ Err Unknown))
 cases_read (Ok x) = inl (x, refl)
 cases_read (Err Short) = inr (inl refl)
 cases_read (Err Unknown) = inr (inr refl)
 
-ok_err : (r : Read Insn) (x : Insn × List ℕ) (d : DecodeFault) → r ≡ Ok x → r ≡ Err d → {P : Type 0} → P
-ok_err r x d p q = absurd (let bad : ◌≡◌ {A = Read Insn} (Ok x) (Err d) = sym p ∙ q in cc bad)
+ok_err : (r : Read DecodeFault Insn) (x : Insn × List ℕ) (d : DecodeFault) → r ≡ Ok x → r ≡ Err d → {P : Type 0} → P
+ok_err r x d p q = absurd (let bad : ◌≡◌ {A = Read DecodeFault Insn} (Ok x) (Err d) = sym p ∙ q in cc bad)
 
-short_unknown : (r : Read Insn) → r ≡ Err Short → r ≡ Err Unknown → {P : Type 0} → P
-short_unknown r p q = absurd (let bad : ◌≡◌ {A = Read Insn} (Err Short) (Err Unknown) = sym p ∙ q in cc bad)
+short_unknown : (r : Read DecodeFault Insn) → r ≡ Err Short → r ≡ Err Unknown → {P : Type 0} → P
+short_unknown r p q = absurd (let bad : ◌≡◌ {A = Read DecodeFault Insn} (Err Short) (Err Unknown) = sym p ∙ q in cc bad)
 
-same_ok : (r : Read Insn) (x y : Insn × List ℕ) → r ≡ Ok x → r ≡ Ok y → x ≡ y
-same_ok r x y p q = let e : ◌≡◌ {A = Read Insn} (Ok x) (Ok y) = sym p ∙ q in cc e
+same_ok : (r : Read DecodeFault Insn) (x y : Insn × List ℕ) → r ≡ Ok x → r ≡ Ok y → x ≡ y
+same_ok r x y p q = let e : ◌≡◌ {A = Read DecodeFault Insn} (Ok x) (Ok y) = sym p ∙ q in cc e
 
 -- a whole spelling is read
 whole : (bs : List ℕ) (insn : Insn) → Spelled bs insn → insn_at bs ≡ Ok (insn, [])

@@ -1,23 +1,24 @@
 -- Prefixes, REX and opcode.
 use Rattle.std.proofs.Common.{◌≡◌, ℕ, zero, suc, ◌+◌, ◌<◌, ◌≤◌, Bool, true, false, cond, List, [], ◌∷◌, ◌++◌, Option, Some, None, Ok, Err, refl, sym, ap, subst, ◌∙◌, arith, append_assoc, ◌⊎◌, inl, inr}
-use Rattle.std.specs.Prelude.{◌≢◌, ◌&&◌, ◌||◌, nat_lt, nat_le}
+use Rattle.std.specs.Prelude.{◌≢◌, not, ◌&&◌, ◌||◌, nat_lt, nat_le}
 use Rattle.std.specs.List.{list_all}
 use Rattle.std.proofs.lemmas.Bool.{cases_Bool, and_parts, or_cases, leb-true, ltb-true, not-true, cases_eq, ne_eqb, and_left, and_right, lt-leb, le-ltb}
 use Rattle.std.proofs.lemmas.Bool.Decides.{nat_tests}
-use Rattle.vm_law.specs.declared.head.Prefixes.{Prefixes}
-use Rattle.vm_law.specs.declared.head.Rex.{Rex}
-use Rattle.vm_law.specs.declared.head.Head.{Head}
+use Rattle.x86_grammar.specs.declared.head.Prefixes.{Prefixes}
+use Rattle.x86_grammar.specs.declared.head.Rex.{Rex}
+use Rattle.x86_grammar.specs.declared.head.Head.{Head}
 use Rattle.x86_decode.specs.declared.fault.DecodeFault.{DecodeFault}
 use Rattle.x86_decode.specs.declared.fault.DecodeFault.TheVariants.{Short, Unknown}
-use Rattle.vm_law.specs.declared.table.Map.{Map}
-use Rattle.vm_law.specs.declared.table.Map.TheVariants.{One, Two}
-use Rattle.vm_law.specs.declared.table.Row.{Row}
-use Rattle.vm_law.specs.declared.table.TheConstants.{ROWS}
-use Rattle.vm_law.specs.Rows.{no_prefix, add_prefix, clashes, is_rex, rex_of, any_row, takes, same_map, implies, same_bool, takes_size, not}
-use Rattle.x86_decode.specs.Reading.{Read, scan, rex_at, known, second_at, opcode_at, head_at}
-use Rattle.vm_law.specs.Grammar.{IsBytes, ArePrefixes, IsRex, IsOpcode, IsHead}
-use Rattle.vm_law.proofs.Finding.{any_some, all_at}
-use Rattle.vm_law.proofs.Opcodes.{Takes, takes_parts}
+use Rattle.x86_grammar.specs.declared.table.Map.{Map}
+use Rattle.x86_grammar.specs.declared.table.Map.TheVariants.{One, Two}
+use Rattle.x86_grammar.specs.declared.table.Row.{Row}
+use Rattle.x86_grammar.specs.declared.table.TheConstants.{ROWS}
+use Rattle.x86_grammar.specs.Rows.{no_prefix, add_prefix, clashes, is_rex, rex_of, any_row, takes, same_map, implies, same_bool, takes_size}
+use Rattle.byte_reader.specs.Reader.{Read, Reader, then_read, ◌>>=◌}
+use Rattle.x86_decode.specs.Reading.{scan, rex_at, known, second_at, opcode_at, head_at}
+use Rattle.x86_grammar.specs.Grammar.{IsBytes, ArePrefixes, IsRex, IsOpcode, IsHead}
+use Rattle.x86_grammar.proofs.Finding.{any_some, all_at}
+use Rattle.x86_grammar.proofs.Opcodes.{Takes, takes_parts}
 use Rattle.x86_decode.proofs.Laws.{Reads, IsBytes-nil}
 
 -- ---- prefixes
@@ -197,7 +198,7 @@ rex_over (Some r) front rest i n =
 abbrev head_of : Prefixes → Option Rex → Map → ℕ → Head
 head_of p rex m b = record { prefixes = p; rex = rex; map = m; byte = b }
 
-abbrev good : Head → List ℕ → Read Head
+abbrev good : Head → List ℕ → Read DecodeFault Head
 good h bs = Ok (h, bs)
 
 known_yes : (h : Head) (bs : List ℕ) → any_row h ≡ true → known h bs ≡ Ok (h, bs)
@@ -226,22 +227,22 @@ record OpcodeRead (p : Prefixes) (rex : Option Rex) (bs : List ℕ) (x : Head ×
   rex_is : x.0.rex ≡ rex
   live : any_row x.0 ≡ true
 
-same_ok : (x y : Head × List ℕ) → ◌≡◌ {A = Read Head} (Ok x) (Ok y) → x ≡ y
+same_ok : (x y : Head × List ℕ) → ◌≡◌ {A = Read DecodeFault Head} (Ok x) (Ok y) → x ≡ y
 same_ok x y e = cc
 
-ok_err : (x : Head × List ℕ) (d : DecodeFault) → ◌≡◌ {A = Read Head} (Ok x) (Err d) → {P : Type 0} → P
+ok_err : (x : Head × List ℕ) (d : DecodeFault) → ◌≡◌ {A = Read DecodeFault Head} (Ok x) (Err d) → {P : Type 0} → P
 ok_err x d e = absurd cc
 
-err_ok : (x : Head × List ℕ) (d : DecodeFault) → ◌≡◌ {A = Read Head} (Err d) (Ok x) → {P : Type 0} → P
+err_ok : (x : Head × List ℕ) (d : DecodeFault) → ◌≡◌ {A = Read DecodeFault Head} (Err d) (Ok x) → {P : Type 0} → P
 err_ok x d e = absurd cc
 
-short_unknown : ◌≡◌ {A = Read Head} (Err Short) (Err Unknown) → {P : Type 0} → P
+short_unknown : ◌≡◌ {A = Read DecodeFault Head} (Err Short) (Err Unknown) → {P : Type 0} → P
 short_unknown e = absurd cc
 
-unknown_short : ◌≡◌ {A = Read Head} (Err Unknown) (Err Short) → {P : Type 0} → P
+unknown_short : ◌≡◌ {A = Read DecodeFault Head} (Err Unknown) (Err Short) → {P : Type 0} → P
 unknown_short e = absurd cc
 
-known_cases : (h : Head) (bs : List ℕ) (y : Read Head) → known h bs ≡ y → ((any_row h ≡ true) × (good h bs ≡ y)) ⊎ ((any_row h ≡ false) × (◌≡◌ {A = Read Head} (Err Unknown) y))
+known_cases : (h : Head) (bs : List ℕ) (y : Read DecodeFault Head) → known h bs ≡ y → ((any_row h ≡ true) × (good h bs ≡ y)) ⊎ ((any_row h ≡ false) × (◌≡◌ {A = Read DecodeFault Head} (Err Unknown) y))
 known_cases h bs y e =
     elim (cases_Bool (any_row h)) [
       | inl t ↦ inl (t, sym (known_yes h bs t) ∙ e)
@@ -291,7 +292,7 @@ stops_rex p (Some r) front rest i s =
 abbrev scan_all : List ℕ → Prefixes × List ℕ
 scan_all bs = scan no_prefix bs
 
-abbrev rest_at : Prefixes × List ℕ → Read Head
+abbrev rest_at : Prefixes × List ℕ → Read DecodeFault Head
 rest_at s = opcode_at s.0 (rex_at s.1).0 (rex_at s.1).1
 
 head_yes : (bs : List ℕ) → clashes (scan_all bs).0 ≡ false → head_at bs ≡ rest_at (scan_all bs)

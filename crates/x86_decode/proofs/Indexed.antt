@@ -4,14 +4,14 @@ use Rattle.std.specs.Prelude.{◌&&◌, nat_le, nat_lt, Contains, find, slice_ra
 use Rattle.std.specs.List.{list_any}
 use Rattle.std.proofs.lemmas.Bool.{and_parts, leb-true, ltb-true, cases_lt, cases_Bool}
 use Rattle.std.proofs.lemmas.List.{length-take, length-drop, get_or-take, get_or-drop}
-use Rattle.vm_law.specs.declared.head.Head.{Head}
-use Rattle.vm_law.specs.declared.table.Map.{Map}
-use Rattle.vm_law.specs.declared.table.Map.TheVariants.{One, Two}
-use Rattle.vm_law.specs.declared.table.Row.{Row}
-use Rattle.vm_law.specs.declared.table.TheConstants.{ROWS}
-use Rattle.vm_law.specs.Rows.{takes, fits, row_for, any_row, same_map}
-use Rattle.vm_law.proofs.Finding.{find_some, find_only, find_none, any_some, any_from}
-use Rattle.vm_law.proofs.Opcodes.{takes_parts, takes_from_fits, one_row}
+use Rattle.x86_grammar.specs.declared.head.Head.{Head}
+use Rattle.x86_grammar.specs.declared.table.Map.{Map}
+use Rattle.x86_grammar.specs.declared.table.Map.TheVariants.{One, Two}
+use Rattle.x86_grammar.specs.declared.table.Row.{Row}
+use Rattle.x86_grammar.specs.declared.table.TheConstants.{ROWS}
+use Rattle.x86_grammar.specs.Rows.{takes, fits, row_for, any_row, same_map}
+use Rattle.x86_grammar.proofs.Finding.{find_some, find_only, find_none, any_some, any_from}
+use Rattle.x86_grammar.proofs.Opcodes.{takes_parts, takes_from_fits, one_row}
 use Rattle.x86_decode.specs.Index.{key_of, from_of, upto_of}
 
 abbrev spans : Row → ℕ → ℕ → Bool

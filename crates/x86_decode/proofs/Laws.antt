@@ -1,12 +1,14 @@
 -- Readers and what they read.
-use Rattle.std.proofs.Common.{◌≡◌, ℕ, ◌+◌, ◌-◌, ◌<◌, ◌≤◌, Bool, false, cond, List, [], ◌++◌, length, take, drop, Ok, Err, refl, sym, ap, subst, ◌∙◌, arith, append_assoc, ◌⊎◌, inl, inr}
+use Rattle.std.proofs.Common.{◌≡◌, ℕ, ◌+◌, ◌-◌, ◌<◌, ◌≤◌, Bool, false, cond, List, [], ◌++◌, length, take, drop, Option, Some, None, Ok, Err, refl, sym, ap, subst, ◌∙◌, arith, append_assoc, ◌⊎◌, inl, inr}
 use Rattle.std.specs.Prelude.{nat_lt, replicate}
 use Rattle.std.proofs.lemmas.Bool.{cases_lt, cases_Bool, le-ltb, ltb-true, ltb-false}
 use Rattle.std.proofs.lemmas.List.{length-append, length-take, length-replicate, take-append-drop, take_at, drop_at, get_or-append-add, get_or_append_left, get_or-append_right, get_or-drop, get_or-take, get_or_past, get_or-replicate}
 use Rattle.x86_decode.specs.declared.fault.DecodeFault.{DecodeFault}
 use Rattle.x86_decode.specs.declared.fault.DecodeFault.TheVariants.{Short, Unknown}
-use Rattle.x86_decode.specs.Reading.{Read, ◌>>=◌, chunk}
-use Rattle.vm_law.specs.Grammar.{IsBytes}
+use Rattle.byte_reader.specs.Reader.{Read, Reader, then_read, ◌>>=◌}
+use Rattle.x86_decode.specs.Reading.{chunk, meant}
+use Rattle.vm_law.specs.declared.insn.Insn.{Insn}
+use Rattle.x86_grammar.specs.Grammar.{IsBytes}
 
 -- ---- bytes
 
@@ -45,7 +47,7 @@ IsBytes-zeros n i =
 -- A reader reads what is spelled so. From left to right: there is a spelling; what it reads is one; what is
 -- spelled so is read, whatever follows; where it wants more, some more would do; where it knows nothing, no
 -- more would do.
-pub record Reads {A : Type 0} (read : List ℕ → Read A) (Spell : A → List ℕ → Type 0) : Type 0 where
+pub record Reads {A : Type 0} (read : Reader DecodeFault A) (Spell : A → List ℕ → Type 0) : Type 0 where
   pub opens : (a : A) × (l : List ℕ) × IsBytes l × Spell a l
   pub sound : (bs : List ℕ) (x : A × List ℕ) → IsBytes bs → read bs ≡ Ok x → (front : List ℕ) × (bs ≡ front ++ x.1) × Spell x.0 front
   pub complete : (a : A) (front rest : List ℕ) → Spell a front → read (front ++ rest) ≡ Ok (a, rest)
@@ -61,19 +63,19 @@ pub record Both {A B : Type 0} (P : A → List ℕ → Type 0) (Q : A → B → 
   pub first : P value front
   pub second : Q value b back
 
-pub bind_cases : {A B : Type 0} (r : Read A) (f : A × List ℕ → Read B) (y : Read B) → (r >>= f) ≡ y → ((x : A × List ℕ) × (r ≡ Ok x) × (f x ≡ y)) ⊎ ((e : DecodeFault) × (r ≡ Err e) × (◌≡◌ {A = Read B} (Err e) y))
+pub bind_cases : {A B : Type 0} (r : Read DecodeFault A) (f : A → Reader DecodeFault B) (y : Read DecodeFault B) → then_read f r ≡ y → ((x : A × List ℕ) × (r ≡ Ok x) × (f x.0 x.1 ≡ y)) ⊎ ((e : DecodeFault) × (r ≡ Err e) × (◌≡◌ {A = Read DecodeFault B} (Err e) y))
 bind_cases (Ok x) f y e = inl (x, refl, e)
 bind_cases (Err d) f y e = inr (d, refl, e)
 
-abbrev bad : {A : Type 0} → DecodeFault → Read A
+abbrev bad : {A : Type 0} → DecodeFault → Read DecodeFault A
 bad e = Err e
 
 same_err : {A : Type 0} (d e : DecodeFault) → bad {A = A} d ≡ bad e → d ≡ e
 same_err d e h = cc
 
-module _ {A B : Type 0} (p : List ℕ → Read A) (q : A → List ℕ → Read B) (P : A → List ℕ → Type 0) (Q : A → B → List ℕ → Type 0) (first : Reads p P) (second : (a : A) (l : List ℕ) → P a l → Reads (q a) (Q a)) where
-  both_at : List ℕ → Read B
-  both_at bs = p bs >>= λ x. q x.0 x.1
+module _ {A B : Type 0} (p : Reader DecodeFault A) (q : A → Reader DecodeFault B) (P : A → List ℕ → Type 0) (Q : A → B → List ℕ → Type 0) (first : Reads p P) (second : (a : A) (l : List ℕ) → P a l → Reads (q a) (Q a)) where
+  both_at : Reader DecodeFault B
+  both_at = p >>= q
 
   -- more bytes stay behind what was read
   grows : (bs more : List ℕ) (x : A × List ℕ) → IsBytes bs → p bs ≡ Ok x → p (bs ++ more) ≡ Ok (x.0, x.1 ++ more)
@@ -92,7 +94,7 @@ module _ {A B : Type 0} (p : List ℕ → Read A) (q : A → List ℕ → Read B
   both_sound : (bs : List ℕ) (y : B × List ℕ) → IsBytes bs → both_at bs ≡ Ok y → (front : List ℕ) × (bs ≡ front ++ y.1) × Both P Q y.0 front
   unfolding both_at
   both_sound bs y h e =
-      elim (bind_cases (p bs) (λ x. q x.0 x.1) (Ok y) e) [
+      elim (bind_cases (p bs) q (Ok y) e) [
         | inl (x, r, f) ↦
             let s = first.sound bs x h r in
             let rest : IsBytes x.1 = IsBytes-rest s.0 x.1 (subst (λ (t : List ℕ). IsBytes t) s.1 h) in
@@ -107,12 +109,12 @@ module _ {A B : Type 0} (p : List ℕ → Read A) (q : A → List ℕ → Read B
       let whole : front ++ rest ≡ h.front ++ (h.back ++ rest) = ap (λ (t : List ℕ). t ++ rest) h.parts ∙ append_assoc h.front h.back rest in
       let one : p (front ++ rest) ≡ Ok (h.value, h.back ++ rest) = ap p whole ∙ first.complete h.value h.front (h.back ++ rest) h.first in
       let two : q h.value (h.back ++ rest) ≡ Ok (b, rest) = (second h.value h.front h.first).complete b h.back rest h.second in
-      ap (λ (r : Read A). r >>= λ x. q x.0 x.1) one ∙ two
+      ap (λ (r : Read DecodeFault A). then_read q r) one ∙ two
 
   both_short : (bs : List ℕ) → IsBytes bs → both_at bs ≡ Err Short → (b : B) × (more : List ℕ) × IsBytes more × Both P Q b (bs ++ more)
   unfolding both_at
   both_short bs h e =
-      elim (bind_cases (p bs) (λ x. q x.0 x.1) (Err Short) e) [
+      elim (bind_cases (p bs) q (Err Short) e) [
         | inl (x, r, f) ↦
             let s = first.sound bs x h r in
             let rest : IsBytes x.1 = IsBytes-rest s.0 x.1 (subst (λ (t : List ℕ). IsBytes t) s.1 h) in
@@ -129,42 +131,45 @@ module _ {A B : Type 0} (p : List ℕ → Read A) (q : A → List ℕ → Read B
   both_stable : (bs more : List ℕ) → IsBytes bs → both_at bs ≡ Err Unknown → both_at (bs ++ more) ≡ Err Unknown
   unfolding both_at
   both_stable bs more h e =
-      elim (bind_cases (p bs) (λ x. q x.0 x.1) (Err Unknown) e) [
+      elim (bind_cases (p bs) q (Err Unknown) e) [
         | inl (x, r, f) ↦
             let s = first.sound bs x h r in
             let rest : IsBytes x.1 = IsBytes-rest s.0 x.1 (subst (λ (t : List ℕ). IsBytes t) s.1 h) in
             let t : q x.0 (x.1 ++ more) ≡ Err Unknown = (second x.0 s.0 s.2).stable x.1 more rest f in
-            ap (λ (r : Read A). r >>= λ x. q x.0 x.1) (grows bs more x h r) ∙ t
+            ap (λ (r : Read DecodeFault A). then_read q r) (grows bs more x h r) ∙ t
         | inr (d, r, f) ↦
             let is_unknown : p bs ≡ Err Unknown = r ∙ ap (λ (k : DecodeFault). bad k) (same_err {A = B} d Unknown f) in
-            ap (λ (r : Read A). r >>= λ x. q x.0 x.1) (first.stable bs more h is_unknown)
+            ap (λ (r : Read DecodeFault A). then_read q r) (first.stable bs more h is_unknown)
       ]
 
-  pub both_reads : Reads (λ bs. p bs >>= λ x. q x.0 x.1) (Both P Q)
+  pub both_reads : Reads (p >>= q) (Both P Q)
   unfolding both_at
   both_reads = record { opens = both_opens; sound = both_sound; complete = both_complete; short = both_short; stable = both_stable }
 
--- ---- nothing more
-
-abbrev pub done_at : {A : Type 0} → A → List ℕ → Read A
-done_at a bs = Ok (a, bs)
-
-abbrev pub Done : {A : Type 0} → A → A → List ℕ → Type 0
-Done a b l = (a ≡ b) × (l ≡ [])
-
-same_ok : {A : Type 0} (x y : A × List ℕ) → ◌≡◌ {A = Read A} (Ok x) (Ok y) → x ≡ y
+same_ok : {A : Type 0} (x y : A × List ℕ) → ◌≡◌ {A = Read DecodeFault A} (Ok x) (Ok y) → x ≡ y
 same_ok x y e = cc
 
-ok_err : {A : Type 0} (x : A × List ℕ) (d : DecodeFault) → ◌≡◌ {A = Read A} (Ok x) (Err d) → {P : Type 0} → P
+ok_err : {A : Type 0} (x : A × List ℕ) (d : DecodeFault) → ◌≡◌ {A = Read DecodeFault A} (Ok x) (Err d) → {P : Type 0} → P
 ok_err x d e = absurd cc
 
-pub done_reads : {A : Type 0} (a : A) → Reads (done_at a) (Done a)
-done_reads {A} a = record {
-  opens = (a, [], IsBytes-nil, (refl, refl));
-  sound = λ bs x h e. let s = same_ok (a, bs) x e in ([], ap (λ (y : A × List ℕ). y.1) s, (ap (λ (y : A × List ℕ). y.0) s, refl));
-  complete = λ b front rest d. rw (d.1, ← d.0) refl;
-  short = λ bs h e. ok_err (a, bs) Short e;
-  stable = λ bs more h e. ok_err (a, bs) Unknown e;
+-- ---- nothing more: what the parts mean
+
+abbrev pub Means : Option Insn → Insn → List ℕ → Type 0
+Means o insn l = (o ≡ Some insn) × (l ≡ [])
+
+abbrev some_insn : Insn → Option Insn
+some_insn i = Some i
+
+meant_is : (o : Option Insn) (insn : Insn) (bs : List ℕ) → o ≡ Some insn → meant o bs ≡ Ok (insn, bs)
+meant_is o insn bs e = ap (λ (p : Option Insn). meant p bs) e
+
+pub meant_reads : (o : Option Insn) (insn : Insn) → o ≡ Some insn → Reads (meant o) (Means o)
+meant_reads o insn is = record {
+  opens = (insn, [], IsBytes-nil, (is, refl));
+  sound = λ bs x h e. let s = same_ok (insn, bs) x (sym (meant_is o insn bs is) ∙ e) in ([], ap (λ (y : Insn × List ℕ). y.1) s, (is ∙ ap (λ (y : Insn × List ℕ). some_insn y.0) s, refl));
+  complete = λ b front rest d. ap (λ (t : List ℕ). meant o (t ++ rest)) d.1 ∙ meant_is o b rest d.0;
+  short = λ bs h e. ok_err (insn, bs) Short (sym (meant_is o insn bs is) ∙ e);
+  stable = λ bs more h e. ok_err (insn, bs) Unknown (sym (meant_is o insn bs is) ∙ e);
 }
 
 -- ---- so many bytes
@@ -174,14 +179,14 @@ pub record IsChunk (n : ℕ) (l : List ℕ) (front : List ℕ) : Type 0 where
   pub size : length l ≡ n
   pub bytes : IsBytes l
 
-chunk_cases : (n : ℕ) (bs : List ℕ) (y : Read (List ℕ)) → chunk n bs ≡ y → ((n ≤ length bs) × (◌≡◌ {A = Read (List ℕ)} (Ok (take n bs, drop n bs)) y)) ⊎ ((length bs < n) × (◌≡◌ {A = Read (List ℕ)} (Err Short) y))
+chunk_cases : (n : ℕ) (bs : List ℕ) (y : Read DecodeFault (List ℕ)) → chunk n bs ≡ y → ((n ≤ length bs) × (◌≡◌ {A = Read DecodeFault (List ℕ)} (Ok (take n bs, drop n bs)) y)) ⊎ ((length bs < n) × (◌≡◌ {A = Read DecodeFault (List ℕ)} (Err Short) y))
 chunk_cases n bs y e =
     elim (cases_Bool (nat_lt (length bs) n)) [
       | inl t ↦ inr (ltb-true _ _ t, sym (ap (λ (b : Bool). cond b (bad Short) (Ok (take n bs, drop n bs))) t) ∙ e)
       | inr f ↦ inl (ltb-false _ _ f, sym (ap (λ (b : Bool). cond b (bad Short) (Ok (take n bs, drop n bs))) f) ∙ e)
     ]
 
-short_unknown : {A : Type 0} → ◌≡◌ {A = Read A} (Err Short) (Err Unknown) → {P : Type 0} → P
+short_unknown : {A : Type 0} → ◌≡◌ {A = Read DecodeFault A} (Err Short) (Err Unknown) → {P : Type 0} → P
 short_unknown e = absurd cc
 
 chunk_sound : (n : ℕ) (bs : List ℕ) (x : List ℕ × List ℕ) → IsBytes bs → chunk n bs ≡ Ok x → (front : List ℕ) × (bs ≡ front ++ x.1) × IsChunk n x.0 front

@@ -1,28 +1,28 @@
 -- How long a spelling is.
 use Rattle.std.proofs.Common.{◌≡◌, ℕ, ◌+◌, ◌*◌, ◌≤◌, Bool, true, false, List, [], ◌∷◌, ◌++◌, length, Option, Some, None, refl, sym, ap, ◌∙◌, arith, zero-add, inl, inr}
-use Rattle.std.specs.Prelude.{Contains, ◌&&◌, ◌||◌}
+use Rattle.std.specs.Prelude.{Contains, not, ◌&&◌, ◌||◌}
 use Rattle.std.specs.List.{list_all}
 use Rattle.std.proofs.lemmas.Bool.{cases_Bool, or_cases, not-true}
 use Rattle.std.proofs.lemmas.Bool.Decides.{nat_tests}
 use Rattle.std.proofs.lemmas.List.{length-append}
-use Rattle.vm_law.specs.declared.head.Prefixes.{Prefixes}
-use Rattle.vm_law.specs.declared.head.Rex.{Rex}
-use Rattle.vm_law.specs.declared.head.Head.{Head}
+use Rattle.x86_grammar.specs.declared.head.Prefixes.{Prefixes}
+use Rattle.x86_grammar.specs.declared.head.Rex.{Rex}
+use Rattle.x86_grammar.specs.declared.head.Head.{Head}
 use Rattle.vm_law.specs.declared.insn.Insn.{Insn}
 use Rattle.vm_law.specs.declared.insn.Width.{Width}
 use Rattle.vm_law.specs.declared.insn.Width.TheVariants as width
-use Rattle.vm_law.specs.declared.table.Map.{Map}
-use Rattle.vm_law.specs.declared.table.Map.TheVariants.{One, Two}
-use Rattle.vm_law.specs.declared.table.Imm.{Imm}
-use Rattle.vm_law.specs.declared.table.Imm.TheVariants as imm
-use Rattle.vm_law.specs.declared.table.Row.{Row}
-use Rattle.vm_law.specs.declared.table.TheConstants.{ROWS}
-use Rattle.vm_law.specs.Rows.{add_prefix, clashes, fits, not, has_modrm}
-use Rattle.vm_law.specs.Meaning.{width_of, sib_len, disp_len, imm_len}
-use Rattle.vm_law.specs.Rows.{no_prefix}
-use Rattle.vm_law.specs.Grammar.{ArePrefixes, IsRex, IsOpcode, Spelled}
-use Rattle.vm_law.proofs.Finding.{all_at}
-use Rattle.vm_law.proofs.Opcodes.{fits_parts, no_second, slash_has}
+use Rattle.x86_grammar.specs.declared.table.Map.{Map}
+use Rattle.x86_grammar.specs.declared.table.Map.TheVariants.{One, Two}
+use Rattle.x86_grammar.specs.declared.table.Imm.{Imm}
+use Rattle.x86_grammar.specs.declared.table.Imm.TheVariants as imm
+use Rattle.x86_grammar.specs.declared.table.Row.{Row}
+use Rattle.x86_grammar.specs.declared.table.TheConstants.{ROWS}
+use Rattle.x86_grammar.specs.Rows.{add_prefix, clashes, fits, has_modrm}
+use Rattle.x86_grammar.specs.Operands.{width_of, sib_len, disp_len, imm_len}
+use Rattle.x86_grammar.specs.Rows.{no_prefix}
+use Rattle.x86_grammar.specs.Grammar.{ArePrefixes, IsRex, IsOpcode, Spelled}
+use Rattle.x86_grammar.proofs.Finding.{all_at}
+use Rattle.x86_grammar.proofs.Opcodes.{fits_parts, no_second, slash_has}
 use Rattle.x86_decode.proofs.HeadPart.{no_clash}
 use Rattle.x86_decode.proofs.Whole.{live_from}
 

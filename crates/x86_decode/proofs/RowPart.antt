@@ -1,15 +1,16 @@
 -- The row and its ModRM byte.
 use Rattle.std.proofs.Common.{◌≡◌, ℕ, zero, suc, true, List, [], ◌∷◌, ◌++◌, Option, Some, None, Ok, Err, refl, sym, ap, subst, ◌∙◌, ◌⊎◌, inl, inr}
 use Rattle.std.specs.Prelude.{Contains}
-use Rattle.vm_law.specs.declared.head.Head.{Head}
+use Rattle.x86_grammar.specs.declared.head.Head.{Head}
 use Rattle.x86_decode.specs.declared.fault.DecodeFault.{DecodeFault}
 use Rattle.x86_decode.specs.declared.fault.DecodeFault.TheVariants.{Short, Unknown}
-use Rattle.vm_law.specs.declared.table.Row.{Row}
-use Rattle.vm_law.specs.declared.table.TheConstants.{ROWS}
-use Rattle.vm_law.specs.Rows.{fits, row_for, any_row}
-use Rattle.x86_decode.specs.Reading.{Read, row_at, row_or, row_found, modrm_at}
-use Rattle.vm_law.specs.Grammar.{IsBytes}
-use Rattle.vm_law.proofs.Opcodes.{found, Opens, opens_from, row_for_fits, row_for_none, no_second}
+use Rattle.x86_grammar.specs.declared.table.Row.{Row}
+use Rattle.x86_grammar.specs.declared.table.TheConstants.{ROWS}
+use Rattle.x86_grammar.specs.Rows.{fits, row_for, any_row}
+use Rattle.byte_reader.specs.Reader.{Read, Reader, then_read, ◌>>=◌}
+use Rattle.x86_decode.specs.Reading.{row_at, row_or, row_found, modrm_at}
+use Rattle.x86_grammar.specs.Grammar.{IsBytes}
+use Rattle.x86_grammar.proofs.Opcodes.{found, Opens, opens_from, row_for_fits, row_for_none, no_second}
 use Rattle.x86_decode.proofs.Laws.{Reads, IsBytes-nil}
 
 pub record IsRow (h : Head) (x : Row × List ℕ) (l : List ℕ) : Type 0 where
@@ -25,19 +26,19 @@ cases_option (Some a) = inl (a, refl)
 abbrev Out : Type 0
 Out = (Row × List ℕ) × List ℕ
 
-same_ok : (x y : Out) → ◌≡◌ {A = Read (Row × List ℕ)} (Ok x) (Ok y) → x ≡ y
+same_ok : (x y : Out) → ◌≡◌ {A = Read DecodeFault (Row × List ℕ)} (Ok x) (Ok y) → x ≡ y
 same_ok x y e = cc
 
-ok_err : (x : Out) (d : DecodeFault) → ◌≡◌ {A = Read (Row × List ℕ)} (Ok x) (Err d) → {P : Type 0} → P
+ok_err : (x : Out) (d : DecodeFault) → ◌≡◌ {A = Read DecodeFault (Row × List ℕ)} (Ok x) (Err d) → {P : Type 0} → P
 ok_err x d e = absurd cc
 
-err_ok : (x : Out) (d : DecodeFault) → ◌≡◌ {A = Read (Row × List ℕ)} (Err d) (Ok x) → {P : Type 0} → P
+err_ok : (x : Out) (d : DecodeFault) → ◌≡◌ {A = Read DecodeFault (Row × List ℕ)} (Err d) (Ok x) → {P : Type 0} → P
 err_ok x d e = absurd cc
 
-short_unknown : ◌≡◌ {A = Read (Row × List ℕ)} (Err Short) (Err Unknown) → {P : Type 0} → P
+short_unknown : ◌≡◌ {A = Read DecodeFault (Row × List ℕ)} (Err Short) (Err Unknown) → {P : Type 0} → P
 short_unknown e = absurd cc
 
-unknown_short : ◌≡◌ {A = Read (Row × List ℕ)} (Err Unknown) (Err Short) → {P : Type 0} → P
+unknown_short : ◌≡◌ {A = Read DecodeFault (Row × List ℕ)} (Err Unknown) (Err Short) → {P : Type 0} → P
 unknown_short e = absurd cc
 
 IsBytes-head : (m : ℕ) (bs : List ℕ) → IsBytes (m ∷ bs) → IsBytes (m ∷ [])

@@ -1,16 +1,18 @@
 -- Whole spellings.
 use Rattle.std.proofs.Common.{◌≡◌, ℕ, true, List, [], ◌++◌, refl, sym, ap, ◌∙◌}
 use Rattle.std.specs.Prelude.{Contains}
-use Rattle.vm_law.specs.declared.head.Head.{Head}
+use Rattle.x86_grammar.specs.declared.head.Head.{Head}
 use Rattle.vm_law.specs.declared.insn.Insn.{Insn}
-use Rattle.vm_law.specs.declared.table.Row.{Row}
-use Rattle.vm_law.specs.declared.table.TheConstants.{ROWS}
-use Rattle.vm_law.specs.Rows.{fits, takes, any_row}
-use Rattle.x86_decode.specs.Reading.{Read, ◌>>=◌, head_at, row_at, tail_at, insn_at}
-use Rattle.vm_law.specs.Grammar.{Spelled}
+use Rattle.x86_grammar.specs.declared.table.Row.{Row}
+use Rattle.x86_grammar.specs.declared.table.TheConstants.{ROWS}
+use Rattle.x86_grammar.specs.Rows.{fits, takes, any_row}
+use Rattle.x86_decode.specs.declared.fault.DecodeFault.{DecodeFault}
+use Rattle.byte_reader.specs.Reader.{Read, Reader, then_read, ◌>>=◌}
+use Rattle.x86_decode.specs.Reading.{head_at, row_at, tail_at, insn_at}
+use Rattle.x86_grammar.specs.Grammar.{Spelled}
 use Rattle.std.proofs.lemmas.List.{append-nil}
-use Rattle.vm_law.proofs.Finding.{any_from}
-use Rattle.vm_law.proofs.Opcodes.{takes_from_fits}
+use Rattle.x86_grammar.proofs.Finding.{any_from}
+use Rattle.x86_grammar.proofs.Opcodes.{takes_from_fits}
 use Rattle.x86_decode.proofs.Laws.{Reads, Both, both_reads}
 use Rattle.x86_decode.proofs.HeadPart.{IsLive, head_reads}
 use Rattle.x86_decode.proofs.RowPart.{IsRow, row_reads}
@@ -22,12 +24,12 @@ RowTail h = Both (IsRow h) (λ x. TailSpells h x.0 x.1)
 abbrev AllSpells : Insn → List ℕ → Type 0
 AllSpells = Both IsLive RowTail
 
-row_tail_at : Head → List ℕ → Read Insn
-row_tail_at h bs = row_at h bs >>= λ r. tail_at h r.0.0 r.0.1 r.1
+row_tail_at : Head → Reader DecodeFault Insn
+row_tail_at h = row_at h >>= λ r. tail_at h r.0 r.1
 
 row_tail_reads : (h : Head) → any_row h ≡ true → Reads (row_tail_at h) (RowTail h)
 unfolding row_tail_at
-row_tail_reads h live = both_reads (row_at h) (λ x. tail_at h x.0 x.1) (IsRow h) (λ x. TailSpells h x.0 x.1) (row_reads h live) (λ x l r. tail_reads h x.0 x.1)
+row_tail_reads h live = both_reads (row_at h) (λ x. tail_at h x.0 x.1) (IsRow h) (λ x. TailSpells h x.0 x.1) (row_reads h live) (λ x l r. tail_reads h x.0 x.1 r.among r.fits)
 
 all_reads : Reads insn_at AllSpells
 unfolding insn_at row_tail_at

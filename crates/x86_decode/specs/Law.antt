@@ -1,7 +1,7 @@
 -- What decoding means, said of lists of bytes by the grammar of instructions alone.
 use Rattle.std.specs.Prelude.{◌≡◌, ◌↔◌, ℕ, ◌≤◌, List, length, take, Ok, Err}
 use Rattle.vm_law.specs.declared.insn.Insn.{Insn}
-use Rattle.vm_law.specs.Grammar.{IsBytes, Spelled, IsPartial, IsUnknown}
+use Rattle.x86_grammar.specs.Grammar.{IsBytes, Spelled, IsPartial, IsUnknown}
 use Rattle.x86_decode.specs.declared.fault.DecodeFault.TheVariants.{Short, Unknown}
 use Rattle.x86_decode.specs.Reading.{decoded}
 

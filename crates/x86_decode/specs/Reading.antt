@@ -1,25 +1,17 @@
 -- Reading an instruction part by part, as functions on lists of bytes.
 use Rattle.std.specs.Prelude.{◌≡◌, ℕ, ◌-◌, nat_lt, ◌==◌, Option, Some, None, Result, Ok, Err, List, [], ◌∷◌, length, take, drop, if◌then◌else◌}
-use Rattle.vm_law.specs.declared.head.Prefixes.{Prefixes}
-use Rattle.vm_law.specs.declared.head.Rex.{Rex}
-use Rattle.vm_law.specs.declared.head.Head.{Head}
+use Rattle.x86_grammar.specs.declared.head.Prefixes.{Prefixes}
+use Rattle.x86_grammar.specs.declared.head.Rex.{Rex}
+use Rattle.x86_grammar.specs.declared.head.Head.{Head}
 use Rattle.x86_decode.specs.declared.fault.DecodeFault.{DecodeFault}
 use Rattle.x86_decode.specs.declared.fault.DecodeFault.TheVariants.{Short, Unknown}
-use Rattle.vm_law.specs.declared.table.Map.TheVariants.{One, Two}
-use Rattle.vm_law.specs.declared.table.Row.{Row}
+use Rattle.x86_grammar.specs.declared.table.Map.TheVariants.{One, Two}
+use Rattle.x86_grammar.specs.declared.table.Row.{Row}
 use Rattle.vm_law.specs.declared.insn.Insn.{Insn}
-use Rattle.vm_law.specs.Rows.{no_prefix, add_prefix, clashes, is_rex, rex_of, any_row, row_for}
-use Rattle.vm_law.specs.Meaning.{width_of, sib_len, disp_len, imm_len, meaning}
-
--- what is read and what is left, or why nothing is
-abbrev pub Read : Type 0 → Type 0
-Read A = Result (A × List ℕ) DecodeFault
-
--- reading on, where something was read
-infixl 10 ◌>>=◌
-abbrev pub ◌>>=◌ : {A B : Type 0} → Read A → (A × List ℕ → Read B) → Read B
-(Ok x) >>= f = f x
-(Err e) >>= f = Err e
+use Rattle.x86_grammar.specs.Rows.{no_prefix, add_prefix, clashes, is_rex, rex_of, any_row, row_for}
+use Rattle.x86_grammar.specs.Operands.{width_of, sib_len, disp_len, imm_len}
+use Rattle.x86_grammar.specs.Meaning.{meaning}
+use Rattle.byte_reader.specs.Reader.{Read, Reader, ◌>>=◌}
 
 -- what a function returned is what reading gives
 abbrev pub Gives : {X Y : Type 0} → (X → Y) → Result X DecodeFault → Result Y DecodeFault → Type 0
@@ -27,7 +19,7 @@ Gives view (Ok x) read = read ≡ Ok (view x)
 Gives view (Err e) read = read ≡ Err e
 
 -- so many bytes
-abbrev pub chunk : ℕ → List ℕ → Read (List ℕ)
+abbrev pub chunk : ℕ → Reader DecodeFault (List ℕ)
 chunk n bs = if nat_lt (length bs) n then Err Short else Ok (take n bs, drop n bs)
 
 -- prefixes, as long as there is one that may be added
@@ -41,62 +33,67 @@ rex_at [] = (None, [])
 rex_at (b ∷ bs) = if is_rex b then (Some (rex_of b), bs) else (None, b ∷ bs)
 
 -- a head that some row has
-abbrev pub known : Head → List ℕ → Read Head
+abbrev pub known : Head → Reader DecodeFault Head
 known h bs = if any_row h then Ok (h, bs) else Err Unknown
 
 -- the opcode byte behind 0F
-abbrev pub second_at : Prefixes → Option Rex → List ℕ → Read Head
+abbrev pub second_at : Prefixes → Option Rex → Reader DecodeFault Head
 second_at p rex [] = Err Short
 second_at p rex (b ∷ bs) = known (record { prefixes = p; rex = rex; map = Two; byte = b }) bs
 
 -- the opcode
-unfoldable pub opcode_at : Prefixes → Option Rex → List ℕ → Read Head
+unfoldable pub opcode_at : Prefixes → Option Rex → Reader DecodeFault Head
 opcode_at p rex [] = Err Short
 opcode_at p rex (b ∷ bs) = if b == 15 then second_at p rex bs else known (record { prefixes = p; rex = rex; map = One; byte = b }) bs
 
 -- prefixes, REX byte and opcode
-unfoldable pub head_at : List ℕ → Read Head
+unfoldable pub head_at : Reader DecodeFault Head
 head_at bs =
     let s = scan no_prefix bs in
     let r = rex_at s.1 in
     if clashes s.0 then Err Unknown else opcode_at s.0 r.0 r.1
 
 -- the row, with the ModRM byte where it has one
-abbrev pub row_found : Option Row → List ℕ → List ℕ → Read (Row × List ℕ)
+abbrev pub row_found : Option Row → List ℕ → Reader DecodeFault (Row × List ℕ)
 row_found None ms bs = Err Unknown
 row_found (Some row) ms bs = Ok ((row, ms), bs)
 
 -- the row by the ModRM byte
-abbrev pub modrm_at : Head → List ℕ → Read (Row × List ℕ)
+abbrev pub modrm_at : Head → Reader DecodeFault (Row × List ℕ)
 modrm_at h [] = Err Short
 modrm_at h (m ∷ bs) = row_found (row_for h (m ∷ [])) (m ∷ []) bs
 
 -- the row without a ModRM byte, or else by one
-abbrev pub row_or : Option Row → Head → List ℕ → Read (Row × List ℕ)
+abbrev pub row_or : Option Row → Head → Reader DecodeFault (Row × List ℕ)
 row_or None h bs = modrm_at h bs
 row_or (Some row) h bs = Ok ((row, []), bs)
 
 -- the row of an opcode
-unfoldable pub row_at : Head → List ℕ → Read (Row × List ℕ)
+unfoldable pub row_at : Head → Reader DecodeFault (Row × List ℕ)
 row_at h bs = row_or (row_for h []) h bs
 
+-- an instruction that the parts mean
+abbrev pub meant : Option Insn → Reader DecodeFault Insn
+meant None bs = Err Unknown
+meant (Some insn) bs = Ok (insn, bs)
+
 -- what stands behind a row's ModRM byte
-unfoldable pub tail_at : Head → Row → List ℕ → List ℕ → Read Insn
-tail_at h row modrm bs = do
-  sib ← chunk (sib_len modrm) bs
-  disp ← chunk (disp_len modrm sib.0) sib.1
-  imm ← chunk (imm_len row.imm (width_of row.class h.prefixes h.rex)) disp.1
-  Ok (meaning row h modrm sib.0 disp.0 imm.0, imm.1)
+unfoldable pub tail_at : Head → Row → List ℕ → Reader DecodeFault Insn
+tail_at h row modrm = do
+  sib ← chunk (sib_len modrm)
+  disp ← chunk (disp_len modrm sib)
+  imm ← chunk (imm_len row.imm (width_of row.class h.prefixes h.rex))
+  meant (meaning row h modrm sib disp imm)
 
 -- an instruction
-unfoldable pub insn_at : List ℕ → Read Insn
-insn_at bs = do
-  h ← head_at bs
-  r ← row_at h.0 h.1
-  tail_at h.0 r.0.0 r.0.1 r.1
+unfoldable pub insn_at : Reader DecodeFault Insn
+insn_at = do
+  h ← head_at
+  r ← row_at h
+  tail_at h r.0 r.1
 
 -- the instruction, and how many bytes it took
-abbrev pub sized : List ℕ → Read Insn → Result (Insn × ℕ) DecodeFault
+abbrev pub sized : List ℕ → Read DecodeFault Insn → Result (Insn × ℕ) DecodeFault
 sized bs (Ok x) = Ok (x.0, length bs - length x.1)
 sized bs (Err e) = Err e
 

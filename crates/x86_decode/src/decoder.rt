@@ -1,11 +1,11 @@
 ghost use Rattle.std.specs.Prelude.{◌≡◌, ℕ, ◌≤◌, ◌+◌, ◌↔◌, List, ◌++◌, [], length, take, IfOk};
 ghost use Rattle.x86_decode.specs.Reading.{sized, insn_at, decoded};
 ghost use Rattle.x86_decode.specs.Law.{FoundLaw, ShortLaw, UnknownLaw};
-ghost use Rattle.vm_law.specs.Grammar.{Spelled, IsPartial, IsUnknown};
+ghost use Rattle.x86_grammar.specs.Grammar.{Spelled, IsPartial, IsUnknown};
 ghost use Rattle.vm_law.specs.declared.insn.Insn.{Insn};
 
 use crate::fault::DecodeFault;
-use crate::parts::insn_at;
+use crate::reading::insn_at;
 use vm_law::Insn;
 
 fn decode_at(bytes: &[u8]) -> Result<(Insn, u8), DecodeFault>

@@ -1,8 +1,8 @@
 ghost use Rattle.std.specs.Prelude.{◌≡◌, ◌<◌, ◌≤◌, length, slice_range};
-ghost use Rattle.vm_law.specs.declared.table.TheConstants.{ROWS};
+ghost use Rattle.x86_grammar.specs.declared.table.TheConstants.{ROWS};
 ghost use Rattle.x86_decode.specs.Index.{key_of, from_of, upto_of};
 
-use vm_law::{Head, Map, ROWS, Row};
+use x86_grammar::{Head, Map, ROWS, Row};
 
 /// For each opcode byte of map One and then of map Two, the index of its first row. The prover computes that
 /// no row stands outside its range, so that nobody need trust the numbers.

@@ -1,6 +1,6 @@
 //! The decoder of the instructions that vmrun interprets, an integer subset of 64-bit x86.
 //!
-//! [`decode`] answers by the grammar of instructions alone, which `vm_law` states as a table of opcodes and
+//! [`decode`] answers by the grammar of instructions alone, which `x86_grammar` states as a table of opcodes and
 //! a relation between bytes and instructions: it answers an instruction exactly where the bytes begin with
 //! a spelling of it, `Short` exactly where more bytes would make one, and `Unknown` else. [`one_spelling`]
 //! is the law that makes this answer the only one: no bytes spell two instructions, and no spelling is
@@ -9,11 +9,12 @@
 
 mod decoder;
 mod fault;
+mod fields;
 mod index;
 pub mod meaning;
-pub mod operand;
-mod parts;
-pub mod reading;
+pub mod operands;
+mod reading;
+pub mod rows;
 #[cfg(test)]
 mod tests;
 

@@ -1,215 +1,365 @@
-ghost use Rattle.std.specs.Prelude.{◌≡◌, ◌≤◌, ◌-◌};
-ghost use Rattle.vm_law.specs.Meaning.{signed_of, word_of, byte_of, source_width, operands, number_of, place_of, mem_of, op_of, meaning};
+ghost use Rattle.std.specs.Prelude.{◌≡◌, slice_get};
+ghost use Rattle.x86_grammar.specs.declared.condition.TheConstants.{CONDITIONS};
+ghost use Rattle.std.specs.Option.{option_map};
+ghost use Rattle.x86_grammar.specs.Meaning.{nothing, place_alone, register_alone, memory_alone, source_alone, destination_and_source, two_places, register_and_place, register_and_memory, register_place_and_number, place_and_byte, offset_alone, byte_alone, word_alone, condition_of, op_of, rm_width, meaning};
 
-use crate::operand::{e_of, g_of, opcode_register, short_signed_of, width_of};
-use vm_law::{Count, Form, Head, Insn, Loc, Mem, Op, OpKind, Row, Src, Width};
+use crate::operands::{row_operands, signed, signed32, unsigned8, unsigned16, width_of};
+use vm_law::{Condition, Count, Insn, Loc, Mem, Op, Src, Width};
+use x86_grammar::{CONDITIONS, Head, OpKind, Operands, Row};
 
-/// A number of 1, 2, 4 or 8 bytes with its sign, and else 0.
-#[tactic(auto, unfolding(vm_law::specs::Meaning::signed_of))]
-fn signed_of(bytes: &[u8]) -> i64
-    ensures { result ≡ signed_of bytes.now }
+/// The operation, where it has no operands and there are none.
+fn alone(operands: Operands, op: Op) -> Option<Op>
+    ensures { result ≡ option_map (λ _. op) (nothing operands) }
 {
-    match bytes {
-        [a] => i64::from(a.cast_signed()),
-        [a, b] => i64::from(i16::from_le_bytes([*a, *b])),
-        [a, b, c, d] => i64::from(i32::from_le_bytes([*a, *b, *c, *d])),
-        [a, b, c, d, e, f, g, h] => i64::from_le_bytes([*a, *b, *c, *d, *e, *f, *g, *h]),
-        _ => 0,
+    match operands {
+        Operands::None => Some(op),
+        _ => None,
     }
 }
 
-/// A number of 2 bytes, and else 0.
-#[tactic(auto, unfolding(vm_law::specs::Meaning::word_of))]
-fn word_of(bytes: &[u8]) -> u16
-    ensures { result ≡ word_of bytes.now }
+fn place_alone(operands: Operands) -> Option<Loc>
+    ensures { result ≡ place_alone operands }
 {
-    match bytes {
-        [a, b] => u16::from_le_bytes([*a, *b]),
-        _ => 0,
+    match operands {
+        Operands::Place(a) => Some(a),
+        _ => None,
     }
 }
 
-/// The first byte, or 0.
-fn byte_of(bytes: &[u8]) -> u8
-    ensures { result ≡ byte_of bytes.now }
+fn register_alone(operands: Operands) -> Option<u8>
+    ensures { result ≡ register_alone operands }
 {
-    match bytes {
-        [] => 0,
-        [byte, ..] => *byte,
+    match operands {
+        Operands::Place(Loc::Reg(r)) => Some(r),
+        _ => None,
     }
 }
 
-/// The width of the operand in r/m, which MOVZX, MOVSX and MOVSXD extend.
-#[tactic(auto, unfolding(vm_law::specs::Meaning::source_width))]
-pub fn source_width(kind: OpKind, width: Width) -> Width
-    ensures { result ≡ source_width kind width }
+fn memory_alone(operands: Operands) -> Option<Mem>
+    ensures { result ≡ memory_alone operands }
+{
+    match operands {
+        Operands::Place(Loc::Mem(m)) => Some(m),
+        _ => None,
+    }
+}
+
+fn source_alone(operands: Operands) -> Option<Src>
+    ensures { result ≡ source_alone operands }
+{
+    match operands {
+        Operands::Place(a) => Some(Src::Loc(a)),
+        Operands::Immediate(i) => Some(Src::Imm(signed(i))),
+        _ => None,
+    }
+}
+
+fn destination_and_source(operands: Operands) -> Option<(Loc, Src)>
+    ensures { result ≡ destination_and_source operands }
+{
+    match operands {
+        Operands::Places(a, b) => Some((a, Src::Loc(b))),
+        Operands::PlaceAndImmediate(a, i) => Some((a, Src::Imm(signed(i)))),
+        _ => None,
+    }
+}
+
+fn two_places(operands: Operands) -> Option<(Loc, Loc)>
+    ensures { result ≡ two_places operands }
+{
+    match operands {
+        Operands::Places(a, b) => Some((a, b)),
+        _ => None,
+    }
+}
+
+fn register_and_place(operands: Operands) -> Option<(u8, Loc)>
+    ensures { result ≡ register_and_place operands }
+{
+    match operands {
+        Operands::Places(Loc::Reg(r), b) => Some((r, b)),
+        _ => None,
+    }
+}
+
+fn register_and_memory(operands: Operands) -> Option<(u8, Mem)>
+    ensures { result ≡ register_and_memory operands }
+{
+    match operands {
+        Operands::Places(Loc::Reg(r), Loc::Mem(m)) => Some((r, m)),
+        _ => None,
+    }
+}
+
+fn register_place_and_number(operands: Operands) -> Option<(u8, Loc, i32)>
+    ensures { result ≡ register_place_and_number operands }
+{
+    match operands {
+        Operands::PlacesAndImmediate(Loc::Reg(r), b, i) => Some((r, b, signed32(i)?)),
+        _ => None,
+    }
+}
+
+fn place_and_byte(operands: Operands) -> Option<(Loc, u8)>
+    ensures { result ≡ place_and_byte operands }
+{
+    match operands {
+        Operands::PlaceAndImmediate(a, i) => Some((a, unsigned8(i)?)),
+        _ => None,
+    }
+}
+
+fn offset_alone(operands: Operands) -> Option<i32>
+    ensures { result ≡ offset_alone operands }
+{
+    match operands {
+        Operands::Immediate(i) => signed32(i),
+        _ => None,
+    }
+}
+
+fn byte_alone(operands: Operands) -> Option<u8>
+    ensures { result ≡ byte_alone operands }
+{
+    match operands {
+        Operands::Immediate(i) => unsigned8(i),
+        _ => None,
+    }
+}
+
+fn word_alone(operands: Operands) -> Option<u16>
+    ensures { result ≡ word_alone operands }
+{
+    match operands {
+        Operands::Immediate(i) => unsigned16(i),
+        _ => None,
+    }
+}
+
+/// The condition of a number, 0 to 15.
+fn condition_at(number: u8) -> Option<Condition>
+    ensures { result ≡ slice_get CONDITIONS number }
+{
+    CONDITIONS.get(number as usize).copied()
+}
+
+/// The condition in the low four bits of an opcode.
+#[tactic(auto, unfolding(x86_grammar::specs::Meaning::condition_of))]
+fn condition_of(byte: u8) -> Option<Condition>
+    ensures { result ≡ condition_of byte }
+{
+    condition_at(byte % 16)
+}
+
+/// The operation of an opcode byte and operands, where it has these operands.
+#[tactic(auto, unfolding(x86_grammar::specs::Meaning::op_of))]
+fn op_of(kind: OpKind, byte: u8, operands: Operands) -> Option<Op>
+    ensures { result ≡ op_of kind byte operands }
 {
     match kind {
-        OpKind::MovZx8 | OpKind::MovSx8 => Width::B,
-        OpKind::MovZx16 | OpKind::MovSx16 => Width::W,
-        OpKind::MovSx32 => Width::D,
+        OpKind::Alu(k) => {
+            let (a, b) = destination_and_source(operands)?;
+            Some(Op::Alu(k, a, b))
+        }
+        OpKind::Test => {
+            let (a, b) = destination_and_source(operands)?;
+            Some(Op::Test(a, b))
+        }
+        OpKind::Unary(k) => {
+            let a = place_alone(operands)?;
+            Some(Op::Unary(k, a))
+        }
+        OpKind::Inc => {
+            let a = place_alone(operands)?;
+            Some(Op::Inc(a))
+        }
+        OpKind::Dec => {
+            let a = place_alone(operands)?;
+            Some(Op::Dec(a))
+        }
+        OpKind::Imul2 => {
+            let (r, b) = register_and_place(operands)?;
+            Some(Op::Imul2(r, b))
+        }
+        OpKind::Imul3 => {
+            let (r, b, v) = register_place_and_number(operands)?;
+            Some(Op::Imul3(r, b, v))
+        }
+        OpKind::Mov => {
+            let (a, b) = destination_and_source(operands)?;
+            Some(Op::Mov(a, b))
+        }
+        OpKind::MovZx(w) => {
+            let (r, b) = register_and_place(operands)?;
+            Some(Op::MovZx(r, w, b))
+        }
+        OpKind::MovSx(w) => {
+            let (r, b) = register_and_place(operands)?;
+            Some(Op::MovSx(r, w, b))
+        }
+        OpKind::Lea => {
+            let (r, m) = register_and_memory(operands)?;
+            Some(Op::Lea(r, m))
+        }
+        OpKind::Xchg => {
+            let (a, b) = two_places(operands)?;
+            Some(Op::Xchg(a, b))
+        }
+        OpKind::CmpXchg => {
+            let (a, b) = two_places(operands)?;
+            Some(Op::CmpXchg(a, b))
+        }
+        OpKind::Xadd => {
+            let (a, b) = two_places(operands)?;
+            Some(Op::Xadd(a, b))
+        }
+        OpKind::Shift(k) => {
+            let (a, n) = place_and_byte(operands)?;
+            Some(Op::Shift(k, a, Count::Imm(n)))
+        }
+        OpKind::ShiftOne(k) => {
+            let a = place_alone(operands)?;
+            Some(Op::Shift(k, a, Count::Imm(1)))
+        }
+        OpKind::ShiftCl(k) => {
+            let a = place_alone(operands)?;
+            Some(Op::Shift(k, a, Count::Cl))
+        }
+        OpKind::Bit(k) => {
+            let (a, b) = destination_and_source(operands)?;
+            Some(Op::Bit(k, a, b))
+        }
+        OpKind::Bsf => {
+            let (r, b) = register_and_place(operands)?;
+            Some(Op::Bsf(r, b))
+        }
+        OpKind::Bsr => {
+            let (r, b) = register_and_place(operands)?;
+            Some(Op::Bsr(r, b))
+        }
+        OpKind::Bswap => {
+            let r = register_alone(operands)?;
+            Some(Op::Bswap(r))
+        }
+        OpKind::SetCc => {
+            let c = condition_of(byte)?;
+            let a = place_alone(operands)?;
+            Some(Op::SetCc(c, a))
+        }
+        OpKind::CMov => {
+            let c = condition_of(byte)?;
+            let (r, b) = register_and_place(operands)?;
+            Some(Op::CMov(c, r, b))
+        }
+        OpKind::Jcc => {
+            let c = condition_of(byte)?;
+            let d = offset_alone(operands)?;
+            Some(Op::Jcc(c, d))
+        }
+        OpKind::Jmp => {
+            let d = offset_alone(operands)?;
+            Some(Op::Jmp(d))
+        }
+        OpKind::Call => {
+            let d = offset_alone(operands)?;
+            Some(Op::Call(d))
+        }
+        OpKind::JmpTo => {
+            let a = place_alone(operands)?;
+            Some(Op::JmpTo(a))
+        }
+        OpKind::CallReg => {
+            let r = register_alone(operands)?;
+            Some(Op::CallReg(r))
+        }
+        OpKind::Ret => alone(operands, Op::Ret(0)),
+        OpKind::RetImmediate => {
+            let n = word_alone(operands)?;
+            Some(Op::Ret(n))
+        }
+        OpKind::Push => {
+            let b = source_alone(operands)?;
+            Some(Op::Push(b))
+        }
+        OpKind::Pop => {
+            let r = register_alone(operands)?;
+            Some(Op::Pop(r))
+        }
+        OpKind::Leave => alone(operands, Op::Leave),
+        OpKind::PushF => alone(operands, Op::PushF),
+        OpKind::PopF => alone(operands, Op::PopF),
+        OpKind::Clc => alone(operands, Op::Clc),
+        OpKind::Stc => alone(operands, Op::Stc),
+        OpKind::Cmc => alone(operands, Op::Cmc),
+        OpKind::Cld => alone(operands, Op::Cld),
+        OpKind::Std => alone(operands, Op::Std),
+        OpKind::Int3 => alone(operands, Op::Int(3)),
+        OpKind::Hlt => alone(operands, Op::Hlt),
+        OpKind::Sti => alone(operands, Op::Sti),
+        OpKind::Cli => alone(operands, Op::Cli),
+        OpKind::Widen => alone(operands, Op::Widen),
+        OpKind::SignFill => alone(operands, Op::SignFill),
+        OpKind::In => {
+            let n = byte_alone(operands)?;
+            Some(Op::In(Some(n)))
+        }
+        OpKind::Out => {
+            let n = byte_alone(operands)?;
+            Some(Op::Out(Some(n)))
+        }
+        OpKind::InDx => alone(operands, Op::In(None)),
+        OpKind::OutDx => alone(operands, Op::Out(None)),
+        OpKind::Int => {
+            let n = byte_alone(operands)?;
+            Some(Op::Int(n))
+        }
+        OpKind::Iret => alone(operands, Op::Iret),
+        OpKind::Ud2 => alone(operands, Op::Ud2),
+        OpKind::Lidt => {
+            let m = memory_alone(operands)?;
+            Some(Op::Lidt(m))
+        }
+        OpKind::Nop => alone(operands, Op::Nop(None)),
+        OpKind::NopAt => {
+            let a = place_alone(operands)?;
+            Some(Op::Nop(Some(a)))
+        }
+        OpKind::Pause => alone(operands, Op::Pause),
+        OpKind::Endbr => alone(operands, Op::Endbr),
+        OpKind::Fence(m) => alone(operands, Op::Fence(m)),
+    }
+}
+
+/// The width of the operand that mod and rm name, which MOVZX, MOVSX and MOVSXD extend.
+#[tactic(auto, unfolding(x86_grammar::specs::Meaning::rm_width))]
+pub fn rm_width(kind: OpKind, width: Width) -> Width
+    ensures { result ≡ rm_width kind width }
+{
+    match kind {
+        OpKind::MovZx(from) | OpKind::MovSx(from) => from,
         _ => width,
     }
 }
 
-/// The first operand and the second, as the form of a row takes them from the parts.
-#[tactic(auto, unfolding(vm_law::specs::Meaning::operands))]
-fn operands(
-    form: Form,
-    width: Width,
-    source: Width,
+/// The instruction that the parts of a spelling mean, where they fit together.
+#[tactic(auto, unfolding(x86_grammar::specs::Meaning::meaning))]
+pub fn meaning(
+    row: &Row,
     head: &Head,
-    first: u8,
-    modrm: u8,
+    modrm: &[u8],
     sib: &[u8],
     disp: &[u8],
-    value: i64,
-) -> (Loc, Src)
-    requires { first ≤ head.now.byte }
-    ensures { result ≡ operands form width source head.now first modrm sib.now disp.now value }
-{
-    match form {
-        Form::EG => (
-            e_of(source, head.rex, modrm, sib, disp),
-            Src::Loc(g_of(width, head.rex, modrm)),
-        ),
-        Form::GE => (
-            g_of(width, head.rex, modrm),
-            Src::Loc(e_of(source, head.rex, modrm, sib, disp)),
-        ),
-        Form::EI | Form::E => (e_of(source, head.rex, modrm, sib, disp), Src::Imm(value)),
-        Form::OI => (opcode_register(width, head, first), Src::Imm(value)),
-        Form::OA => (opcode_register(width, head, first), Src::Loc(Loc::Reg(0))),
-        Form::O => {
-            let register = opcode_register(width, head, first);
-            (register, Src::Loc(register))
-        }
-        Form::AI | Form::I | Form::Z => (Loc::Reg(0), Src::Imm(value)),
-    }
-}
-
-/// The number of a register.
-fn number_of(place: Loc) -> u8
-    ensures { result ≡ number_of place }
-{
-    match place {
-        Loc::Reg(number) | Loc::High(number) => number,
-        Loc::Mem(_) => 0,
-    }
-}
-
-/// The place of an operand that is no immediate.
-pub fn place_of(operand: Src) -> Loc
-    ensures { result ≡ place_of operand }
-{
-    match operand {
-        Src::Loc(place) => place,
-        Src::Imm(_) => Loc::Reg(0),
-    }
-}
-
-/// The place in memory of an operand that is one.
-fn mem_of(place: Loc) -> Mem
-    ensures { result ≡ mem_of place }
-{
-    match place {
-        Loc::Mem(mem) => mem,
-        Loc::Reg(_) | Loc::High(_) => Mem {
-            base: None,
-            index: None,
-            scale: 1,
-            disp: 0,
-            rip: false,
-        },
-    }
-}
-
-/// The operation, of a condition, a ModRM byte, two operands and an immediate.
-#[tactic(auto, unfolding(vm_law::specs::Meaning::op_of))]
-fn op_of(kind: OpKind, condition: u8, modrm: u8, first: Loc, second: Src, imm: &[u8]) -> Op
-    ensures { result ≡ op_of kind condition modrm first second imm.now }
-{
-    match kind {
-        OpKind::Alu(k) => Op::Alu(k, first, second),
-        OpKind::Test => Op::Test(first, second),
-        OpKind::Unary(k) => Op::Unary(k, first),
-        OpKind::Inc => Op::Inc(first),
-        OpKind::Dec => Op::Dec(first),
-        OpKind::Imul2 => Op::Imul2(number_of(first), place_of(second)),
-        OpKind::Imul3 => Op::Imul3(number_of(first), place_of(second), short_signed_of(imm)),
-        OpKind::Mov => Op::Mov(first, second),
-        OpKind::MovZx8 => Op::MovZx(number_of(first), Width::B, place_of(second)),
-        OpKind::MovZx16 => Op::MovZx(number_of(first), Width::W, place_of(second)),
-        OpKind::MovSx8 => Op::MovSx(number_of(first), Width::B, place_of(second)),
-        OpKind::MovSx16 => Op::MovSx(number_of(first), Width::W, place_of(second)),
-        OpKind::MovSx32 => Op::MovSx(number_of(first), Width::D, place_of(second)),
-        OpKind::Lea => Op::Lea(number_of(first), mem_of(place_of(second))),
-        OpKind::Xchg => Op::Xchg(first, place_of(second)),
-        OpKind::CmpXchg => Op::CmpXchg(first, place_of(second)),
-        OpKind::Xadd => Op::Xadd(first, place_of(second)),
-        OpKind::Shift(k) => Op::Shift(k, first, Count::Imm(byte_of(imm))),
-        OpKind::ShiftOne(k) => Op::Shift(k, first, Count::Imm(1)),
-        OpKind::ShiftCl(k) => Op::Shift(k, first, Count::Cl),
-        OpKind::Bit(k) => Op::Bit(k, first, second),
-        OpKind::Bsf => Op::Bsf(number_of(first), place_of(second)),
-        OpKind::Bsr => Op::Bsr(number_of(first), place_of(second)),
-        OpKind::Bswap => Op::Bswap(number_of(first)),
-        OpKind::SetCc => Op::SetCc(condition, first),
-        OpKind::CMov => Op::CMov(condition, number_of(first), place_of(second)),
-        OpKind::Jcc => Op::Jcc(condition, short_signed_of(imm)),
-        OpKind::Jmp => Op::Jmp(short_signed_of(imm)),
-        OpKind::Call => Op::Call(short_signed_of(imm)),
-        OpKind::JmpTo => Op::JmpTo(first),
-        OpKind::CallReg => Op::CallReg(number_of(first)),
-        OpKind::Ret => Op::Ret(word_of(imm)),
-        OpKind::Push => Op::Push(second),
-        OpKind::Pop => Op::Pop(number_of(first)),
-        OpKind::Leave => Op::Leave,
-        OpKind::PushF => Op::PushF,
-        OpKind::PopF => Op::PopF,
-        OpKind::Clc => Op::Clc,
-        OpKind::Stc => Op::Stc,
-        OpKind::Cmc => Op::Cmc,
-        OpKind::Cld => Op::Cld,
-        OpKind::Std => Op::Std,
-        OpKind::Int3 => Op::Int(3),
-        OpKind::Hlt => Op::Hlt,
-        OpKind::Sti => Op::Sti,
-        OpKind::Cli => Op::Cli,
-        OpKind::Widen => Op::Widen,
-        OpKind::SignFill => Op::SignFill,
-        OpKind::In => Op::In(Some(byte_of(imm))),
-        OpKind::Out => Op::Out(Some(byte_of(imm))),
-        OpKind::InDx => Op::In(None),
-        OpKind::OutDx => Op::Out(None),
-        OpKind::Int => Op::Int(byte_of(imm)),
-        OpKind::Iret => Op::Iret,
-        OpKind::Ud2 => Op::Ud2,
-        OpKind::Lidt => Op::Lidt(mem_of(first)),
-        OpKind::Nop => Op::Nop(None),
-        OpKind::NopAt => Op::Nop(Some(first)),
-        OpKind::Pause => Op::Pause,
-        OpKind::Endbr => Op::Endbr,
-        OpKind::Fence => Op::Fence(modrm),
-    }
-}
-
-/// The instruction that the parts of a spelling mean.
-#[tactic(auto, unfolding(vm_law::specs::Meaning::meaning))]
-pub fn meaning(row: &Row, head: &Head, modrm: &[u8], sib: &[u8], disp: &[u8], imm: &[u8]) -> Insn
-    requires { row.now.byte ≤ head.now.byte }
+    imm: &[u8],
+) -> Option<Insn>
     ensures { result ≡ meaning row.now head.now modrm.now sib.now disp.now imm.now }
 {
     let width = width_of(row.class, head.prefixes, head.rex);
-    let source = source_width(row.kind, width);
-    let byte = byte_of(modrm);
-    let value = signed_of(imm);
-    let (first, second) = operands(
-        row.form, width, source, head, row.byte, byte, sib, disp, value,
-    );
-    Insn {
+    let from = rm_width(row.kind, width);
+    let operands = row_operands(row, width, from, head, modrm, sib, disp, imm)?;
+    let op = op_of(row.kind, head.byte, operands)?;
+    Some(Insn {
         lock: head.prefixes.lock,
         width,
-        op: op_of(row.kind, head.byte - row.byte, byte, first, second, imm),
-    }
+        op,
+    })
 }

@@ -5,12 +5,12 @@ use Rattle.std.specs.Int.{w8, w32, cast_unsigned, cast_signed}
 use Rattle.std.proofs.lemmas.Bool.{cases_lt, cases_Bool, le-leb, lt-leb, eq-eqb, and_from, and_parts, eqb-true}
 use Rattle.std.proofs.lemmas.Bool.Decides.{nat_tests}
 use Rattle.std.proofs.lemmas.List.{get_or_past}
-use Rattle.vm_law.specs.declared.head.Rex.{Rex}
+use Rattle.x86_grammar.specs.declared.head.Rex.{Rex}
 use Rattle.vm_law.specs.declared.insn.Mem.{Mem}
-use Rattle.vm_law.specs.Rows.{not}
-use Rattle.vm_law.specs.Meaning.{eight, rex_x, rex_base, sib_len, disp_len, base_field, short_signed_of, scale_of, address}
-use Rattle.vm_law.specs.Grammar.{IsBytes}
-use Rattle.x86_encode.specs.Place.{Place, is_none, is_byte, fits_none, fits_byte, disp8, fewest_mode, fewest_bytes}
+use Rattle.std.specs.Prelude.{not}
+use Rattle.x86_encode.proofs.Total.{eight, rex_x, rex_base, sib_len, disp_len, base_field, short_signed_of, scale_of, address}
+use Rattle.x86_grammar.specs.Grammar.{IsBytes}
+use Rattle.x86_encode.specs.Inside.Place.{Place, is_none, is_byte, fits_none, fits_byte, disp8, fewest_mode, fewest_bytes}
 use Rattle.x86_encode.proofs.Places.{IsDisp, at_place, mem_of, one_signed, none_signed, four_back, fewest_none, fewest_one, fewest_four, one_item, not_none, bare_rip, bare_base, sib_none, sib_some, base_none, base_some, sib_one, sib_zero, len_of, none_len, one_len, four_len, byte_is_byte}
 
 one_byte : (m : ℕ) → m < 256 → IsBytes (m ∷ [])

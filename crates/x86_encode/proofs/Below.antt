@@ -3,11 +3,11 @@ use Rattle.std.proofs.Common.{◌≡◌, ℕ, suc, ◌+◌, ◌≤◌, Bool, tru
 use Rattle.std.specs.Prelude.{◌&&◌, ◌||◌, nat_lt, ◌==◌}
 use Rattle.std.proofs.lemmas.Bool.{cases_lt, cases_eq, lt-ltb, and_from, and_parts, or_left, or_right, or_cases, eq-eqb, ne_eqb}
 use Rattle.std.proofs.lemmas.List.{length-append}
-use Rattle.vm_law.specs.declared.head.Prefixes.{Prefixes}
-use Rattle.vm_law.specs.Rows.{no_prefix, add_prefix, clashes}
-use Rattle.vm_law.specs.Grammar.{ArePrefixes}
+use Rattle.x86_grammar.specs.declared.head.Prefixes.{Prefixes}
+use Rattle.x86_grammar.specs.Rows.{no_prefix, add_prefix, clashes}
+use Rattle.x86_grammar.specs.Grammar.{ArePrefixes}
 use Rattle.x86_encode.specs.Order.{lex_le, before}
-use Rattle.x86_encode.specs.Plain.{prefix_bytes}
+use Rattle.x86_encode.specs.Inside.Plain.{prefix_bytes}
 use Rattle.x86_encode.proofs.Places.{lex_one}
 use Rattle.x86_encode.proofs.Order.{lex_refl, before_same}
 

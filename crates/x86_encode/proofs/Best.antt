@@ -6,11 +6,11 @@ use Rattle.std.proofs.lemmas.Bool.{cases_Bool}
 use Rattle.std.proofs.lemmas.List.{take_more}
 use Rattle.std.proofs.lemmas.List.Elements.{Contains-push_cases, Contains-append_left, Contains-push}
 use Rattle.vm_law.specs.declared.insn.Insn.{Insn}
-use Rattle.vm_law.specs.declared.table.Row.{Row}
+use Rattle.x86_grammar.specs.declared.table.Row.{Row}
 use Rattle.x86_encode.specs.declared.labels.Labels.{Labels}
 use Rattle.x86_encode.specs.Order.{before}
-use Rattle.x86_encode.specs.Plain.{written}
-use Rattle.x86_encode.specs.Selecting.{plain_by, Fits, IsLeast, NoneFits, better_of, lesser}
+use Rattle.x86_encode.specs.Inside.Plain.{written}
+use Rattle.x86_encode.specs.Inside.Selecting.{plain_by, Fits, IsLeast, NoneFits, better_of, lesser}
 use Rattle.x86_encode.proofs.Order.{before_refl, before_other, before_trans}
 
 abbrev pub Best : Labels → Insn → List Row → Option (List ℕ) → Type 0

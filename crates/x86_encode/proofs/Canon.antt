@@ -1,47 +1,49 @@
 -- Of an instruction that a row spells, the row's plain spelling is one, and none by the row is before it.
 use Rattle.std.proofs.Common.{◌≡◌, ℕ, ◌+◌, ◌-◌, ◌/◌, ◌%◌, ◌<◌, ◌≤◌, Bool, true, false, cond, List, [], ◌∷◌, ◌++◌, length, Option, Some, None, refl, sym, ap, subst, ◌∙◌, arith, append_assoc, ◌⊎◌, inl, inr}
-use Rattle.std.specs.Prelude.{ℤ, ◌&&◌, ◌||◌, nat_lt, nat_le, ◌==◌, Contains}
+use Rattle.std.specs.Prelude.{ℤ, not, ◌&&◌, ◌||◌, nat_lt, nat_le, ◌==◌, Contains}
 use Rattle.std.specs.List.{list_all}
-use Rattle.std.proofs.lemmas.Bool.{cases_Bool, and_parts, and_from, or_cases, or_left, or_right, or_parts, or_from, leb-true, ltb-true, le-leb, lt-ltb, eqb-true, not-true}
-use Rattle.vm_law.specs.declared.head.Rex.{Rex}
-use Rattle.vm_law.specs.declared.head.Head.{Head}
+use Rattle.std.specs.Option.{option_map}
+use Rattle.std.proofs.lemmas.Bool.{cases_Bool, and_parts, and_from, or_cases, or_left, or_right, or_parts, or_from, leb-true, le-leb, lt-ltb, eqb-true, not-true}
+use Rattle.x86_grammar.specs.declared.head.Rex.{Rex}
+use Rattle.x86_grammar.specs.declared.head.Head.{Head}
 use Rattle.vm_law.specs.declared.insn.Width.{Width}
 use Rattle.vm_law.specs.declared.insn.Loc.{Loc}
-use Rattle.vm_law.specs.declared.insn.Src.{Src}
 use Rattle.vm_law.specs.declared.insn.Op.{Op}
 use Rattle.vm_law.specs.declared.insn.Insn.{Insn}
-use Rattle.vm_law.specs.declared.table.Map.{Map}
-use Rattle.vm_law.specs.declared.table.Map.TheVariants.{One, Two}
-use Rattle.vm_law.specs.declared.table.Class.{Class}
-use Rattle.vm_law.specs.declared.table.Need.{Need}
-use Rattle.vm_law.specs.declared.table.Need.TheVariants as need
-use Rattle.vm_law.specs.declared.table.Form.{Form}
-use Rattle.vm_law.specs.declared.table.Form.TheVariants as form
-use Rattle.vm_law.specs.declared.table.Side.{Side}
-use Rattle.vm_law.specs.declared.table.Side.TheVariants as side
-use Rattle.vm_law.specs.declared.table.Slash.{Slash}
-use Rattle.vm_law.specs.declared.table.OpKind.{OpKind}
-use Rattle.vm_law.specs.declared.table.Row.{Row}
-use Rattle.vm_law.specs.declared.table.TheConstants.{ROWS}
-use Rattle.vm_law.specs.Rows.{takes, takes_size, fits, same_map, same_bool, implies, meets, rex_w, rex_b, fits_slash, fits_side, not}
-use Rattle.vm_law.specs.Meaning.{eight, rex_r, rex_x, rex_base, width_of, sib_len, disp_len, imm_len, signed_of, register, address, e_of, source_width, opcode_register, operands, op_of, byte_of, meaning}
-use Rattle.vm_law.specs.Grammar.{IsBytes, IsHead, IsOpcode, Spells}
-use Rattle.vm_law.proofs.Finding.{all_at}
-use Rattle.vm_law.proofs.Opcodes.{takes_parts}
+use Rattle.x86_grammar.specs.declared.table.Map.{Map}
+use Rattle.x86_grammar.specs.declared.table.Map.TheVariants.{One, Two}
+use Rattle.x86_grammar.specs.declared.table.Class.{Class}
+use Rattle.x86_grammar.specs.declared.table.Need.{Need}
+use Rattle.x86_grammar.specs.declared.table.Need.TheVariants as need
+use Rattle.x86_grammar.specs.declared.table.Form.{Form}
+use Rattle.x86_grammar.specs.declared.table.Form.TheVariants as form
+use Rattle.x86_grammar.specs.declared.table.Imm.{Imm}
+use Rattle.x86_grammar.specs.declared.table.Row.{Row}
+use Rattle.x86_grammar.specs.declared.table.TheConstants.{ROWS}
+use Rattle.x86_grammar.specs.Fields.{rex_w, rex_b}
+use Rattle.x86_grammar.specs.Rows.{takes, takes_size, fits, same_map, same_bool, implies, meets}
+use Rattle.x86_grammar.specs.declared.operands.Immediate.{Immediate}
+use Rattle.x86_grammar.specs.declared.operands.Operands.{Operands}
+use Rattle.x86_grammar.specs.Operands.{◌>>=◌, width_of, sib_len as sib_size, disp_len as disp_size, imm_len, rm_operand, reg_operand, opcode_operand, immediate, operands_of, row_operands}
+use Rattle.x86_grammar.specs.Meaning.{rm_width, op_of, meaning}
+use Rattle.x86_grammar.proofs.Matching.{has_rm as has_e, has_reg as has_g, has_immediate, has_imm, same_truth, no_reg}
+use Rattle.x86_encode.proofs.Total.{eight, rex_r, rex_x, rex_base, sib_len, disp_len, register, e_of, byte_of, sib_len_is, disp_len_is, e_is, e_there, r_is, b_is}
+use Rattle.x86_grammar.specs.Grammar.{IsBytes, IsHead, IsOpcode, Spells}
+use Rattle.x86_grammar.proofs.Finding.{all_at}
+use Rattle.x86_grammar.proofs.Opcodes.{takes_parts}
 use Rattle.x86_decode.proofs.HeadPart.{no_clash}
 use Rattle.x86_decode.proofs.Whole.{live_from}
 use Rattle.x86_encode.specs.declared.labels.Labels.{Labels}
 use Rattle.x86_encode.specs.Order.{before}
-use Rattle.x86_encode.specs.Place.{Place}
-use Rattle.x86_encode.specs.Plain.{Parts, e_loc, g_loc, o_loc, condition_of, number_of, number_bytes, low_of, bit_of, wants_rex, e_place, modrm_of, is_quad, takes_wide, must_have_rex, is_wide, is_sized, rex_for, head_of, plain, prefix_bytes, rex_bytes, opcode_bytes, head_bytes, written}
-use Rattle.x86_encode.specs.Selecting.{Fitting, HoldsLabels, Fits, plain_by}
-use Rattle.x86_encode.proofs.Widths.{wide_is_needed, size_is_needed, sized_takes, width_again, is_b, wide_class}
+use Rattle.x86_encode.specs.Inside.Place.{Place}
+use Rattle.x86_encode.specs.Inside.Plain.{Parts, e_loc, g_loc, o_loc, condition_of, number_of, number_bytes, low_of, bit_of, wants_rex, e_place, modrm_of, is_quad, takes_wide, must_have_rex, is_wide, is_sized, rex_for, head_of, plain, prefix_bytes, rex_bytes, opcode_bytes, head_bytes, written}
+use Rattle.x86_encode.specs.Inside.Selecting.{Fitting, HoldsLabels, Fits, plain_by}
+use Rattle.x86_encode.proofs.Widths.{wide_is_needed, size_is_needed, sized_takes, width_again}
 use Rattle.x86_encode.proofs.Rexes.{Bits, rex_bits, any_of, none_for, rex_below}
 use Rattle.x86_encode.proofs.Below.{Le, Le-same, Le-append, Le-before, prefixes_below}
-use Rattle.x86_encode.proofs.Operand.{e_mem, e_reg}
-use Rattle.x86_encode.proofs.Slots.{has_condition, is_fence, condition_by, back, no_byte, is_narrow, narrows, stays_wide, has_e, has_g, has_o, first_slot, second_slot, first_same, second_same, Known, keeps_e, keeps_g, keeps_o, e_kept, g_kept, o_kept, e_none, g_none, o_none, no_e_o, g_has_e}
-use Rattle.x86_encode.proofs.Numbers.{keeps_imm, imm_kept}
-use Rattle.x86_encode.proofs.Fields.{reg_slot, no_loc_bit, register_wide, known_register, known_memory, fits_rest, fits_split, fits_join, slash_ok, one_modrm, modrm_part}
+use Rattle.x86_encode.proofs.Slots.{back, has_condition, condition_by, has_o, named, bound, mapped, same_loc, operands_same, e_none, g_none, o_none, no_rm_o}
+use Rattle.x86_encode.proofs.Numbers.{IsNumberOf, no_bytes}
+use Rattle.x86_encode.proofs.Fields.{reg_slot, no_loc_bit, fits_split, fits_join, slash_ok, one_modrm, modrm_part}
 
 -- ---- the bits of a REX byte
 
@@ -178,10 +180,11 @@ unfolding opcode_bytes
 is_opcode One x = refl
 is_opcode Two x = refl
 
-abbrev offset_ok : Bool → Bool → ℕ → Bool
-offset_ok true o span = not o
-offset_ok false true span = nat_le span 8
-offset_ok false false span = span == 1
+-- where the low bits of an opcode name a condition or a register, the row begins at a multiple of their number
+abbrev offset_ok : Bool → Bool → ℕ → ℕ → Bool
+offset_ok true o first span = not o && (nat_le span 16 && (first % 16 == 0))
+offset_ok false true first span = nat_le span 8 && (first % 8 == 0)
+offset_ok false false first span = span == 1
 
 abbrev need_ok : Need → Form → Class → Bool
 need_ok need.None f c = true
@@ -189,59 +192,47 @@ need_ok need.Wide f c = not (takes_wide c)
 need_ok need.NoB f c = not (has_e f) && not (has_o f)
 need_ok need.NotAcc f c = has_o f
 
-abbrev is_reg : Side → Bool
-is_reg side.Any = false
-is_reg side.Mem = false
-is_reg side.Reg = true
-
-abbrev is_mem : Side → Bool
-is_mem side.Any = false
-is_mem side.Mem = true
-is_mem side.Reg = false
-
-abbrev sure_register : Row → Bool
-sure_register row = is_reg row.side && (not (is_b row.class) && not (narrows row.kind))
-
--- its parts fit together: the operation keeps what stands in the fields
+-- its parts fit together
 abbrev lawful : Row → Bool
 lawful row =
-    keeps_e row.form row.kind (sure_register row) (is_mem row.side) && (keeps_g row.form row.kind (not (is_b row.class)) && (keeps_o row.form row.kind (not (is_b row.class))
-    && (keeps_imm row.kind row.form row.imm && (nat_le (row.byte + row.span) 256 && (offset_ok (has_condition row.kind) (has_o row.form) row.span
-    && (slash_ok row.form row.slash && (need_ok row.need row.form row.class && implies (is_fence row.kind) (not (has_e row.form)))))))))
+    same_truth (has_immediate row.form) (has_imm row.imm) && (nat_le (row.byte + row.span) 256 && (offset_ok (has_condition row.kind) (has_o row.form) row.byte row.span
+    && (slash_ok row.form row.slash && need_ok row.need row.form row.class)))
 
 rows_lawful : list_all lawful ROWS ≡ true
 rows_lawful = refl
 
 record Lawful (row : Row) : Type 0 where
-  e : keeps_e row.form row.kind (sure_register row) (is_mem row.side) ≡ true
-  g : keeps_g row.form row.kind (not (is_b row.class)) ≡ true
-  o : keeps_o row.form row.kind (not (is_b row.class)) ≡ true
-  imm : keeps_imm row.kind row.form row.imm ≡ true
+  imm : same_truth (has_immediate row.form) (has_imm row.imm) ≡ true
   small : row.byte + row.span ≤ 256
-  offset : offset_ok (has_condition row.kind) (has_o row.form) row.span ≡ true
+  offset : offset_ok (has_condition row.kind) (has_o row.form) row.byte row.span ≡ true
   slash : slash_ok row.form row.slash ≡ true
   need : need_ok row.need row.form row.class ≡ true
-  fence : implies (is_fence row.kind) (not (has_e row.form)) ≡ true
 
 lawful_row : (row : Row) → Contains ROWS row → Lawful row
 lawful_row row c =
-    let t1 = and_parts (keeps_e row.form row.kind (sure_register row) (is_mem row.side)) _ (all_at lawful ROWS row rows_lawful c) in
-    let t2 = and_parts (keeps_g row.form row.kind (not (is_b row.class))) _ t1.1 in
-    let t3 = and_parts (keeps_o row.form row.kind (not (is_b row.class))) _ t2.1 in
-    let t4 = and_parts (keeps_imm row.kind row.form row.imm) _ t3.1 in
-    let t5 = and_parts (nat_le (row.byte + row.span) 256) _ t4.1 in
-    let t6 = and_parts (offset_ok (has_condition row.kind) (has_o row.form) row.span) _ t5.1 in
-    let t7 = and_parts (slash_ok row.form row.slash) _ t6.1 in
-    let t8 = and_parts (need_ok row.need row.form row.class) (implies (is_fence row.kind) (not (has_e row.form))) t7.1 in
-    record { e = t1.0; g = t2.0; o = t3.0; imm = t4.0; small = leb-true _ _ t5.0; offset = t6.0; slash = t7.0; need = t8.0; fence = t8.1 }
+    let t1 = and_parts (same_truth (has_immediate row.form) (has_imm row.imm)) _ (all_at lawful ROWS row rows_lawful c) in
+    let t2 = and_parts (nat_le (row.byte + row.span) 256) _ t1.1 in
+    let t3 = and_parts (offset_ok (has_condition row.kind) (has_o row.form) row.byte row.span) _ t2.1 in
+    let t4 = and_parts (slash_ok row.form row.slash) _ t3.1 in
+    record { imm = t1.0; small = leb-true _ _ t2.0; offset = t3.0; slash = t4.0; need = t4.1 }
 
 -- ---- the opcode byte
 
-byte_back : (hc ho : Bool) (first span byte c low : ℕ) → offset_ok hc ho span ≡ true → first ≤ byte → byte < first + span → first + span ≤ 256
-    → c ≡ condition_by hc (byte - first) → (ho ≡ true → low ≡ (byte - first) % 8) → (ho ≡ false → low ≡ 0) → (first + (c + low) % 256) % 256 ≡ byte
-byte_back true true first span byte c low k a b s e f g = absurd cc
-byte_back true false first span byte c low k a b s e f g = let z : low ≡ 0 = g refl in omega arith
-byte_back false true first span byte c low k a b s e f g = let z : low ≡ (byte - first) % 8 = f refl in let n : span ≤ 8 = leb-true span 8 k in omega arith
+byte_back : (hc ho : Bool) (first span byte c low : ℕ) → offset_ok hc ho first span ≡ true → first ≤ byte → byte < first + span → first + span ≤ 256
+    → c ≡ condition_by hc byte → (ho ≡ true → low ≡ byte % 8) → (ho ≡ false → low ≡ 0) → (first + (c + low) % 256) % 256 ≡ byte
+byte_back true true first span byte c low k a b s e f g = absurd (let t = and_parts false (nat_le span 16 && (first % 16 == 0)) k in let bad : false ≡ true = t.0 in cc bad)
+byte_back true false first span byte c low k a b s e f g =
+    let z : low ≡ 0 = g refl in
+    let t = and_parts (nat_le span 16) (first % 16 == 0) k in
+    let n : span ≤ 16 = leb-true span 16 t.0 in
+    let m : first % 16 ≡ 0 = eqb-true (first % 16) 0 t.1 in
+    omega arith
+byte_back false true first span byte c low k a b s e f g =
+    let z : low ≡ byte % 8 = f refl in
+    let t = and_parts (nat_le span 8) (first % 8 == 0) k in
+    let n : span ≤ 8 = leb-true span 8 t.0 in
+    let m : first % 8 ≡ 0 = eqb-true (first % 8) 0 t.1 in
+    omega arith
 byte_back false false first span byte c low k a b s e f g = let z : low ≡ 0 = g refl in let n : span ≡ 1 = eqb-true span 1 k in omega arith
 
 -- ---- what an opcode needs
@@ -267,56 +258,53 @@ wide_quad need.Wide f c w ok t = absurd (let bad : true ≡ false = sym ok ∙ a
 wide_quad need.NoB f c w ok t = ap (λ (q : Bool). q && is_quad w) t
 wide_quad need.NotAcc f c w ok t = ap (λ (q : Bool). q && is_quad w) t
 
--- ---- the meaning by slots
+-- ---- the meaning by its operands and its operation
+
+abbrev some_place : Loc → Option Loc
+some_place l = Some l
 
 abbrev insn_of : Bool → Width → Op → Insn
 insn_of lock w o = record { lock = lock; width = w; op = o }
 
-abbrev value : OpKind → Form → Bool → Width → ℕ → ℕ → Loc → Loc → Loc → List ℕ → Insn
-value k f lock w c m e g o imm = insn_of lock w (op_of k c m (first_slot f e g o) (second_slot f e g o (signed_of imm)) imm)
+-- what is meant has operands and an operation
+record Meant (row : Row) (h : Head) (ms sib disp imm : List ℕ) (insn : Insn) : Type 0 where
+  operands : Operands
+  op : Op
+  operands_are : operands_of row.form (rm_operand (rm_width row.kind (width_of row.class h.prefixes h.rex)) h.rex ms sib disp) (reg_operand (width_of row.class h.prefixes h.rex) h.rex ms) (opcode_operand (width_of row.class h.prefixes h.rex) h.rex h.byte) (immediate imm) ≡ Some operands
+  op_is : op_of row.kind h.byte operands ≡ Some op
+  insn_is : insn_of h.prefixes.lock (width_of row.class h.prefixes h.rex) op ≡ insn
 
-operands_are : (f : Form) (w ew : Width) (h : Head) (first m : ℕ) (sib disp : List ℕ) (v : ℤ)
-    → operands f w ew h first m sib disp v ≡ (first_slot f (e_of ew h.rex m sib disp) (register w h.rex (m / 8 % 8 + rex_r h.rex)) (register w h.rex ((h.byte - first) % 8 + rex_base h.rex)), second_slot f (e_of ew h.rex m sib disp) (register w h.rex (m / 8 % 8 + rex_r h.rex)) (register w h.rex ((h.byte - first) % 8 + rex_base h.rex)) v)
-unfolding operands opcode_register
-operands_are form.EG w ew h first m sib disp v = refl
-operands_are form.GE w ew h first m sib disp v = refl
-operands_are form.EI w ew h first m sib disp v = refl
-operands_are form.E w ew h first m sib disp v = refl
-operands_are form.AI w ew h first m sib disp v = refl
-operands_are form.OI w ew h first m sib disp v = refl
-operands_are form.OA w ew h first m sib disp v = refl
-operands_are form.O w ew h first m sib disp v = refl
-operands_are form.I w ew h first m sib disp v = refl
-operands_are form.Z w ew h first m sib disp v = refl
+meant_from : (row : Row) (h : Head) (ms sib disp imm : List ℕ) (insn : Insn) → meaning row h ms sib disp imm ≡ Some insn → Meant row h ms sib disp imm insn
+unfolding meaning row_operands
+meant_from row h ms sib disp imm insn e =
+    let m = bound (operands_of row.form (rm_operand (rm_width row.kind (width_of row.class h.prefixes h.rex)) h.rex ms sib disp) (reg_operand (width_of row.class h.prefixes h.rex) h.rex ms) (opcode_operand (width_of row.class h.prefixes h.rex) h.rex h.byte) (immediate imm)) _ insn e in
+    let n = mapped _ (op_of row.kind h.byte m.0) insn m.2 in
+    record { operands = m.0; op = n.0; operands_are = m.1; op_is = n.1; insn_is = n.2 }
 
-meaning_is : (row : Row) (h : Head) (ms sib disp imm : List ℕ)
-    → meaning row h ms sib disp imm ≡ value row.kind row.form h.prefixes.lock (width_of row.class h.prefixes h.rex) (h.byte - row.byte) (byte_of ms)
-    (e_of (source_width row.kind (width_of row.class h.prefixes h.rex)) h.rex (byte_of ms) sib disp)
-    (register (width_of row.class h.prefixes h.rex) h.rex (byte_of ms / 8 % 8 + rex_r h.rex))
-    (register (width_of row.class h.prefixes h.rex) h.rex ((h.byte - row.byte) % 8 + rex_base h.rex)) imm
-unfolding meaning
-meaning_is row h ms sib disp imm =
-    let w = width_of row.class h.prefixes h.rex in
-    ap (λ (q : Loc × Src). insn_of h.prefixes.lock w (op_of row.kind (h.byte - row.byte) (byte_of ms) q.0 q.1 imm)) (operands_are row.form w (source_width row.kind w) h row.byte (byte_of ms) sib disp (signed_of imm))
+abbrev row_part : Row → Head → Width → List ℕ → List ℕ → List ℕ → List ℕ → Option Operands
+row_part row h w ms sib disp imm = operands_of row.form (rm_operand (rm_width row.kind w) h.rex ms sib disp) (reg_operand w h.rex ms) (opcode_operand w h.rex h.byte) (immediate imm)
 
-not_fence : (t u : Bool) → implies t (not u) ≡ true → u ≡ true → t ≡ false
-not_fence true true e f = absurd cc
-not_fence true false e f = absurd cc
-not_fence false u e f = refl
+abbrev finished : Row → Head → Width → Option Operands → Option Insn
+finished row h w o = o >>= λ p. option_map (λ x. insn_of h.prefixes.lock w x) (op_of row.kind h.byte p)
 
-byte_same : (k : OpKind) (f : Form) (c m m2 : ℕ) (a : Loc) (b : Src) (imm : List ℕ) → implies (is_fence k) (not (has_e f)) ≡ true → (has_e f ≡ false → m2 ≡ m) → op_of k c m2 a b imm ≡ op_of k c m a b imm
-byte_same k f c m m2 a b imm t e =
-    elim (cases_Bool (has_e f)) [
-      | inl yes_e ↦ no_byte k c m2 m a b imm (not_fence (is_fence k) (has_e f) t yes_e)
-      | inr none_e ↦ ap (λ (n : ℕ). op_of k c n a b imm) (e none_e)
-    ]
+-- it is meant again where width, operands and operation are the same
+meant_again : (row : Row) (h : Head) (ms sib disp imm : List ℕ) (w : Width) (o : Operands) (x : Op) → width_of row.class h.prefixes h.rex ≡ w
+    → row_part row h w ms sib disp imm ≡ Some o → op_of row.kind h.byte o ≡ Some x → meaning row h ms sib disp imm ≡ Some (insn_of h.prefixes.lock w x)
+unfolding meaning row_operands
+meant_again row h ms sib disp imm w o x e p q =
+    ap (λ (v : Width). finished row h v (row_part row h v ms sib disp imm)) e
+    ∙ ap (λ (r : Option Operands). finished row h w r) p
+    ∙ ap (λ (r : Option Op). option_map (λ x. insn_of h.prefixes.lock w x) r) q
 
-value_same : (k : OpKind) (f : Form) (lock : Bool) (w : Width) (c m m2 : ℕ) (e g o e2 g2 o2 : Loc) (imm : List ℕ) → implies (is_fence k) (not (has_e f)) ≡ true → (has_e f ≡ false → m2 ≡ m)
-    → (has_e f ≡ true → e2 ≡ e) → (has_g f ≡ true → g2 ≡ g) → (has_o f ≡ true → o2 ≡ o) → value k f lock w c m2 e2 g2 o2 imm ≡ value k f lock w c m e g o imm
-value_same k f lock w c m m2 e g o e2 g2 o2 imm t n p q r =
-    ap (λ (l : Loc). insn_of lock w (op_of k c m2 l (second_slot f e2 g2 o2 (signed_of imm)) imm)) (first_same f e g o e2 g2 o2 p q r)
-    ∙ ap (λ (s : Src). insn_of lock w (op_of k c m2 (first_slot f e g o) s imm)) (second_same f e g o e2 g2 o2 (signed_of imm) p q r)
-    ∙ ap (λ (z : Op). insn_of lock w z) (byte_same k f c m m2 (first_slot f e g o) (second_slot f e g o (signed_of imm)) imm t n)
+reg_there : (w : Width) (rex : Option Rex) (ms : List ℕ) → ms ≡ byte_of ms ∷ [] → reg_operand w rex ms ≡ Some (register w rex (byte_of ms / 8 % 8 + rex_r rex))
+unfolding reg_operand
+reg_there w rex [] e = absurd (cc e)
+reg_there w rex (m ∷ []) e = ap (λ (n : ℕ). some_place (register w rex (m / 8 % 8 + n))) (r_is rex)
+reg_there w rex (m ∷ n ∷ ms) e = absurd (cc e)
+
+opcode_there : (w : Width) (rex : Option Rex) (byte : ℕ) → opcode_operand w rex byte ≡ register w rex (byte % 8 + rex_base rex)
+unfolding opcode_operand
+opcode_there w rex byte = ap (λ (n : ℕ). register w rex (byte % 8 + n)) (b_is rex)
 
 or_none : (t u : Bool) → u ≡ false → (t || u) ≡ t
 or_none true u e = refl
@@ -327,32 +315,31 @@ none_or true u e = absurd cc
 none_or false u e = refl
 
 no_o_e : (f : Form) → has_o f ≡ true → has_e f ≡ false
-no_o_e form.EG h = absurd cc
-no_o_e form.GE h = absurd cc
-no_o_e form.EI h = absurd cc
-no_o_e form.E h = absurd cc
-no_o_e form.AI h = absurd cc
 no_o_e form.OI h = refl
 no_o_e form.OA h = refl
 no_o_e form.O h = refl
-no_o_e form.I h = absurd cc
-no_o_e form.Z h = absurd cc
+no_o_e f h = absurd (cc h)
 
-side_reg : (s : Side) (m : ℕ) → is_reg s ≡ true → fits_side s m ≡ true → 192 ≤ m
-side_reg side.Any m r f = absurd cc
-side_reg side.Mem m r f = absurd cc
-side_reg side.Reg m r f = leb-true 192 m f
+imm_back : (f : Form) (i : Imm) (w : Width) (l : List ℕ) (v : ℤ) → same_truth (has_immediate f) (has_imm i) ≡ true → length l ≡ imm_len i w → IsBytes l → (has_immediate f ≡ true → (j : Immediate) × (immediate l ≡ Some j) × IsNumberOf j v) → number_bytes (imm_len i w) v ≡ l
+imm_back f i w l v t n b g =
+    elim (cases_Bool (has_immediate f)) [
+      | inl y ↦ let k = g y in ap (λ (m : ℕ). number_bytes m v) (sym n) ∙ k.2 l b k.1
+      | inr y ↦ no_bytes i w l v (none_too (has_immediate f) (has_imm i) t y) n
+    ]
+  where
+    none_too : (a c : Bool) → same_truth a c ≡ true → a ≡ false → c ≡ false
+    none_too true c e f = absurd (cc f)
+    none_too false c e f = not-true c e
 
-side_mem : (s : Side) (m : ℕ) → is_mem s ≡ true → fits_side s m ≡ true → m < 192
-side_mem side.Any m r f = absurd cc
-side_mem side.Mem m r f = ltb-true m 192 f
-side_mem side.Reg m r f = absurd cc
+g_has : (f : Form) → has_g f ≡ true → has_e f ≡ true
+g_has form.EG h = refl
+g_has form.GE h = refl
+g_has form.GEI h = refl
+g_has f h = absurd (cc h)
 
-one_side : (s : Slash) (d : Side) (lock : Bool) (m : ℕ) → fits_rest s d lock (m ∷ []) ≡ true → fits_side d m ≡ true
-one_side s d lock m e = (and_parts (fits_side d m) (implies lock (nat_lt m 192)) (and_parts (fits_slash s m) (fits_side d m && implies lock (nat_lt m 192)) e).1).0
-
-side_fits : (s : Slash) (d : Side) (lock : Bool) (ms : List ℕ) → ms ≡ byte_of ms ∷ [] → fits_rest s d lock ms ≡ true → fits_side d (byte_of ms) ≡ true
-side_fits s d lock ms e t = one_side s d lock (byte_of ms) (subst (λ (l : List ℕ). fits_rest s d lock l ≡ true) e t)
+one_small : (ms : List ℕ) → IsBytes ms → ms ≡ byte_of ms ∷ [] → byte_of ms < 256
+one_small [] b e = absurd (cc e)
+one_small (m ∷ ms) b e = b 0
 
 -- ---- a spelling by a row against the plain one
 
@@ -367,9 +354,9 @@ abbrev head_at : Bool → Bool → Bool → Option Rex → Map → ℕ → Head
 head_at size lock rep rex map byte = record { prefixes = record { size = size; lock = lock; rep = rep }; rex = rex; map = map; byte = byte }
 
 head_is : (row : Row) (w : Width) (lock : Bool) (c : ℕ) (e g o : Loc) (pl : Place) (byte : ℕ) → (row.byte + (c + low_of o) % 256) % 256 ≡ byte
-    → head_of row w lock c e g o pl ≡ head_at (is_sized row.class w) lock row.rep (rex_for (must_have_rex (source_width row.kind w) w e g o) (is_wide row.need row.class w) (bit_of g) pl.x (pl.b || bit_of o)) row.map byte
+    → head_of row w lock c e g o pl ≡ head_at (is_sized row.class w) lock row.rep (rex_for (must_have_rex (rm_width row.kind w) w e g o) (is_wide row.need row.class w) (bit_of g) pl.x (pl.b || bit_of o)) row.map byte
 unfolding head_of
-head_is row w lock c e g o pl byte q = ap (λ (n : ℕ). head_at (is_sized row.class w) lock row.rep (rex_for (must_have_rex (source_width row.kind w) w e g o) (is_wide row.need row.class w) (bit_of g) pl.x (pl.b || bit_of o)) row.map n) q
+head_is row w lock c e g o pl byte q = ap (λ (n : ℕ). head_at (is_sized row.class w) lock row.rep (rex_for (must_have_rex (rm_width row.kind w) w e g o) (is_wide row.need row.class w) (bit_of g) pl.x (pl.b || bit_of o)) row.map n) q
 
 plain_is : (long : Bool) (row : Row) (lock : Bool) (w : Width) (o : Op) (h : Head) (imm : List ℕ)
     → head_of row w lock (condition_of o) (e_loc row.form o) (g_loc row.form o) (o_loc row.form o) (e_place long (e_loc row.form o)) ≡ h
@@ -388,23 +375,11 @@ written_is h ms sib disp imm = refl
 regroup : (a b c d : List ℕ) → (a ++ (b ++ c)) ++ d ≡ a ++ (b ++ (c ++ d))
 regroup a b c d = simp append_assoc
 
-known_e : (s : Side) (reg mem : Bool) (ew : Width) (rex : Option Rex) (m : ℕ) (sib disp : List ℕ) → (reg ≡ true → (is_reg s ≡ true) × (is_narrow ew ≡ false)) → (mem ≡ true → is_mem s ≡ true) → fits_side s m ≡ true → Known (e_of ew rex m sib disp) reg mem
-known_e s reg mem ew rex m sib disp r n f = record {
-  in_register = λ t. let k = r t in known_register (e_of ew rex m sib disp) (m % 8 + rex_base rex) (e_reg ew rex m sib disp (side_reg s m k.0 f) ∙ register_wide ew rex (m % 8 + rex_base rex) k.1);
-  in_memory = λ t. known_memory (e_of ew rex m sib disp) (address m rex sib disp) (e_mem ew rex m sib disp (side_mem s m (n t) f));
-}
-
-known_register_slot : (narrow : Bool) (w : Width) (rex : Option Rex) (n : ℕ) → (narrow ≡ false → is_narrow w ≡ false) → Known (register w rex n) (not narrow) false
-known_register_slot narrow w rex n f = record {
-  in_register = λ t. known_register (register w rex n) n (register_wide w rex n (f (not-true narrow t)));
-  in_memory = λ t. absurd cc;
-}
-
 module _ (labels : Labels) (row : Row) (among : Contains ROWS row) (h : Head) (first ms sib disp imm : List ℕ)
     (is_head : IsHead h first) (fit : fits row h ms ≡ true) (ms_bytes : IsBytes ms) (sib_bytes : IsBytes sib) (disp_bytes : IsBytes disp) (imm_bytes : IsBytes imm)
-    (sib_is : length sib ≡ sib_len ms) (disp_is : length disp ≡ disp_len ms sib) (imm_is : length imm ≡ imm_len row.imm (width_of row.class h.prefixes h.rex))
-    (long : labels.displacement ≡ true → length disp ≡ 4) (long_imm : labels.immediate ≡ true → length imm ≡ 4) where
-  good : Good labels row (meaning row h ms sib disp imm) (first ++ (ms ++ (sib ++ (disp ++ imm))))
+    (sib_size_is : length sib ≡ sib_size ms) (disp_size_is : length disp ≡ disp_size ms sib) (imm_is : length imm ≡ imm_len row.imm (width_of row.class h.prefixes h.rex))
+    (long : labels.displacement ≡ true → length disp ≡ 4) (long_imm : labels.immediate ≡ true → length imm ≡ 4) (insn_meant : Insn) (value : meaning row h ms sib disp imm ≡ Some insn_meant) where
+  good : Good labels row insn_meant (first ++ (ms ++ (sib ++ (disp ++ imm))))
   good =
       let law = lawful_row row among in
       let lg = labels.displacement in
@@ -413,38 +388,39 @@ module _ (labels : Labels) (row : Row) (among : Contains ROWS row) (h : Head) (f
       let k = row.kind in
       let f = row.form in
       let w = width_of row.class p rx in
-      let ew = source_width k w in
+      let ew = rm_width k w in
       let m = byte_of ms in
       let c = h.byte - row.byte in
       let gn = m / 8 % 8 in
-      let on = c % 8 in
+      let on = h.byte % 8 in
       let e = e_of ew rx m sib disp in
       let g = register w rx (gn + rex_r rx) in
       let o = register w rx (on + rex_base rx) in
-      let a = first_slot f e g o in
-      let s = second_slot f e g o (signed_of imm) in
-      let op = op_of k c m a s imm in
+      let sib_is : length sib ≡ sib_len ms = sib_size_is ∙ sib_len_is ms ms_bytes in
+      let disp_is : length disp ≡ disp_len ms sib = disp_size_is ∙ disp_len_is ms sib ms_bytes in
+      let rm = rm_operand ew rx ms sib disp in
+      let reg = reg_operand w rx ms in
+      let code = opcode_operand w rx h.byte in
+      let meant = meant_from row h ms sib disp imm insn_meant value in
+      let op = meant.op in
       let insn = insn_of p.lock w op in
-      let mean : meaning row h ms sib disp imm ≡ insn = meaning_is row h ms sib disp imm in
+      let kept = back k h.byte meant.operands op meant.op_is in
+      let names = named rm reg code (immediate imm) meant.operands op kept.facts f meant.operands_are in
       let fs = fits_split row h ms fit in
       let t = takes_parts row h fs.0 in
+      let one : has_e f ≡ true → ms ≡ m ∷ [] = λ has. one_modrm f row.slash row.side p.lock ms law.slash has fs.1 in
       -- the operands
       let e2 = e_loc f op in
       let g2 = g_loc f op in
       let o2 = o_loc f op in
-      let narrow_w : is_b row.class ≡ false → is_narrow w ≡ false = λ z. wide_class row.class p rx z in
-      let e_known : has_e f ≡ true → e2 ≡ e = λ has.
-      e_kept k c m e g o (signed_of imm) imm f (sure_register row) (is_mem row.side)
-      (known_e row.side (sure_register row) (is_mem row.side) ew rx m sib disp
-      (λ z. let z1 = and_parts (is_reg row.side) (not (is_b row.class) && not (narrows k)) z in let z2 = and_parts (not (is_b row.class)) (not (narrows k)) z1.1 in (z1.0, stays_wide k w (not-true (narrows k) z2.1) (narrow_w (not-true (is_b row.class) z2.0))))
-      (λ z. z) (side_fits row.slash row.side p.lock ms (one_modrm f row.slash row.side p.lock ms law.slash has fs.1) fs.1)) law.e has in
-      let g_known : has_g f ≡ true → g2 ≡ g = λ has. g_kept k c m e g o (signed_of imm) imm f (not (is_b row.class)) (known_register_slot (is_b row.class) w rx (gn + rex_r rx) narrow_w) law.g has in
-      let o_known : has_o f ≡ true → o2 ≡ o = λ has. o_kept k c m e g o (signed_of imm) imm f (not (is_b row.class)) (known_register_slot (is_b row.class) w rx (on + rex_base rx) narrow_w) law.o has in
+      let e_known : has_e f ≡ true → e2 ≡ e = λ has. e_is ew rx m sib disp e2 (one_small ms ms_bytes (one has)) sib_bytes (ap (λ (l : List ℕ). rm_operand ew rx l sib disp) (sym (one has)) ∙ names.rm_is has) in
+      let g_known : has_g f ≡ true → g2 ≡ g = λ has. same_loc g g2 (sym (reg_there w rx ms (one (g_has f has))) ∙ names.reg_is has) in
+      let o_known : has_o f ≡ true → o2 ≡ o = λ has. same_loc code o2 (names.opcode_is has) ∙ opcode_there w rx h.byte in
       let rg = reg_slot (has_g f) w rx gn (rex_r rx) g2 (omega arith) (r_cases rx) (λ q. ap rex_r q) g_known (g_none f op) in
       let ro = reg_slot (has_o f) w rx on (rex_base rx) o2 (omega arith) (b_cases rx) (λ q. ap rex_base q) o_known (o_none f op) in
       let pl = e_place lg e2 in
       let lowg = low_of g2 in
-      let mp = modrm_part lg f row.slash row.side p.lock ew rx ms sib disp e2 lowg law.slash (g_has_e f) fs.1 ms_bytes sib_is disp_is sib_bytes disp_bytes long e_known (e_none f op) rg.low_is rg.low_none in
+      let mp = modrm_part lg f row.slash row.side p.lock ew rx ms sib disp e2 lowg law.slash (no_reg f) fs.1 ms_bytes sib_is disp_is sib_bytes disp_bytes long e_known (e_none f op) rg.low_is rg.low_none in
       -- the REX byte
       let must = must_have_rex ew w e2 g2 o2 in
       let wide = is_wide row.need row.class w in
@@ -461,11 +437,11 @@ module _ (labels : Labels) (row : Row) (among : Contains ROWS row) (h : Head) (f
       let none2 : rx ≡ None → rex2 ≡ None = λ q. any_none must wide r pl.x b (none_for must wide r pl.x b rx bits q) in
       let musts : rex2 ≡ None → must ≡ false = λ q. (falses must wide r pl.x b (none_any must wide r pl.x b q)).f_must in
       let o_bit_none : has_o f ≡ false → bit_of o2 ≡ false = λ q. ap bit_of (o_none f op q) ∙ no_loc_bit in
-      let b_e : has_e f ≡ true → rex_base rex2 ≡ eight pl.b = λ q. rex_for_b must wide r pl.x b ∙ ap eight (or_none pl.b (bit_of o2) (o_bit_none (no_e_o f q))) in
+      let b_e : has_e f ≡ true → rex_base rex2 ≡ eight pl.b = λ q. rex_for_b must wide r pl.x b ∙ ap eight (or_none pl.b (bit_of o2) (o_bit_none (no_rm_o f q))) in
       let mg = mp.again rex2 none2 (λ q. (must_parts ew w e2 g2 o2 (musts q)).0) (rex_for_x must wide r pl.x b) b_e in
       let ms2 = modrm_of row.slash pl.mode lowg in
       -- the opcode, the prefixes and the width
-      let cond_is = (back k c m a s imm).condition in
+      let cond_is = kept.condition in
       let byte_is : (row.byte + (condition_of op + low_of o2) % 256) % 256 ≡ h.byte = byte_back (has_condition k) (has_o f) row.byte row.span h.byte (condition_of op) (low_of o2) law.offset t.low t.high law.small cond_is ro.low_is ro.low_none in
       let size2 = is_sized row.class w in
       let h2 : Head = head_at size2 p.lock row.rep rex2 row.map h.byte in
@@ -481,18 +457,26 @@ module _ (labels : Labels) (row : Row) (among : Contains ROWS row) (h : Head) (f
       ap (λ (n : ℕ). register w rex2 (n + rex_r rex2)) (mg.g_is q ∙ rg.low_is q) ∙ rg.again rex2 (rex_r rex2) none2 (λ z. (must_parts ew w e2 g2 o2 (musts z)).1) (rex_for_r must wide r pl.x b) (λ z. ap rex_r z) q ∙ g_known q in
       let o_again : has_o f ≡ true → register w rex2 (on + rex_base rex2) ≡ o = λ q.
       ro.again rex2 (rex_base rex2) none2 (λ z. (must_parts ew w e2 g2 o2 (musts z)).2) (rex_for_b must wide r pl.x b ∙ ap eight (none_or pl.b (bit_of o2) (mp.b_none (no_o_e f q)))) (λ z. ap rex_base z) q ∙ o_known q in
-      let mean2 : meaning row h2 ms2 pl.sib pl.disp imm ≡ insn =
-      meaning_is row h2 ms2 pl.sib pl.disp imm
-      ∙ ap (λ (v : Width). value k f p.lock v c (byte_of ms2) (e_of (source_width k v) rex2 (byte_of ms2) pl.sib pl.disp) (register v rex2 (byte_of ms2 / 8 % 8 + rex_r rex2)) (register v rex2 (on + rex_base rex2)) imm) w2
-      ∙ value_same k f p.lock w c m (byte_of ms2) e g o (e_of ew rex2 (byte_of ms2) pl.sib pl.disp) (register w rex2 (byte_of ms2 / 8 % 8 + rex_r rex2)) (register w rex2 (on + rex_base rex2)) imm law.fence mg.same_byte (λ q. mg.e_is q ∙ e_known q) g_again o_again in
-      let imm2 = imm_kept k f row.imm w c m e g o imm law.imm imm_is imm_bytes in
+      let one2 : has_e f ≡ true → ms2 ≡ byte_of ms2 ∷ [] = λ has. one_modrm f row.slash row.side p.lock ms2 law.slash has (mg.fits p.lock fs.1) in
+      let rm2 : has_e f ≡ true → rm_operand ew rex2 ms2 pl.sib pl.disp ≡ rm = λ q.
+      let s2 = one2 q in
+      let mb : IsBytes (byte_of ms2 ∷ []) = subst IsBytes s2 mg.modrm_bytes in
+      ap (λ (l : List ℕ). rm_operand ew rex2 l pl.sib pl.disp) s2
+      ∙ e_there ew rex2 (byte_of ms2) pl.sib pl.disp (mb 0) mb mg.sib_bytes (mg.sib_is ∙ ap sib_len s2) (mg.disp_is ∙ ap (λ (l : List ℕ). disp_len l pl.sib) s2)
+      ∙ ap some_place (mg.e_is q) ∙ sym (names.rm_is q) in
+      let reg2 : has_g f ≡ true → reg_operand w rex2 ms2 ≡ reg = λ q. reg_there w rex2 ms2 (one2 (g_has f q)) ∙ ap some_place (g_again q) ∙ sym (reg_there w rx ms (one (g_has f q))) in
+      let code2 : has_o f ≡ true → opcode_operand w rex2 h.byte ≡ code = λ q. opcode_there w rex2 h.byte ∙ o_again q ∙ sym (opcode_there w rx h.byte) in
+      let mean2 : meaning row h2 ms2 pl.sib pl.disp imm ≡ Some insn =
+      meant_again row h2 ms2 pl.sib pl.disp imm w meant.operands op w2
+      (operands_same f rm reg (rm_operand ew rex2 ms2 pl.sib pl.disp) (reg_operand w rex2 ms2) code (opcode_operand w rex2 h.byte) (immediate imm) rm2 reg2 code2 ∙ meant.operands_are) meant.op_is in
+      let imm2 : number_bytes (imm_len row.imm w) (number_of op) ≡ imm = imm_back f row.imm w imm (number_of op) law.imm imm_is imm_bytes names.value_is in
       let parts2 = parts_at h2 ms2 pl.sib pl.disp imm in
       let plain2 : plain_by labels row insn ≡ parts2 = plain_is lg row p.lock w op h2 imm head2 imm2 in
       let fitting : Fitting row parts2 insn = record {
         bytes = (mg.modrm_bytes, mg.sib_bytes, mg.disp_bytes, imm_bytes);
         fits = fit2;
-        sib_len = mg.sib_is;
-        disp_len = mg.disp_is;
+        sib_len = mg.sib_is ∙ sym (sib_len_is ms2 mg.modrm_bytes);
+        disp_len = mg.disp_is ∙ sym (disp_len_is ms2 pl.sib mg.modrm_bytes);
         imm_len = imm_is ∙ ap (imm_len row.imm) (sym w2);
         value = mean2;
       } in
@@ -516,10 +500,10 @@ module _ (labels : Labels) (row : Row) (among : Contains ROWS row) (h : Head) (f
       let whole : Le (written (plain_by labels row insn)) (first ++ (ms ++ (sib ++ (disp ++ imm)))) =
       subst (λ (l : List ℕ). Le l (first ++ (ms ++ (sib ++ (disp ++ imm))))) {x = (pre ++ (rexb ++ opb)) ++ (ms2 ++ (pl.sib ++ (pl.disp ++ imm)))} {y = written (plain_by labels row insn)} (sym (ap written plain2 ∙ written_is h2 ms2 pl.sib pl.disp imm))
       (Le-append (pre ++ (rexb ++ opb)) first (ms2 ++ (pl.sib ++ (pl.disp ++ imm))) (ms ++ (sib ++ (disp ++ imm))) le_first le_tail) in
-      subst (λ (i : Insn). Good labels row i (first ++ (ms ++ (sib ++ (disp ++ imm))))) {x = insn} {y = meaning row h ms sib disp imm} (sym mean) (record { fits = all_fits; first = Le-before (written (plain_by labels row insn)) (first ++ (ms ++ (sib ++ (disp ++ imm)))) whole })
+      subst (λ (i : Insn). Good labels row i (first ++ (ms ++ (sib ++ (disp ++ imm))))) {x = insn} {y = insn_meant} meant.insn_is (record { fits = all_fits; first = Le-before (written (plain_by labels row insn)) (first ++ (ms ++ (sib ++ (disp ++ imm)))) whole })
 
 -- the row's plain spelling is one, and no later than any that it has
 pub plain_good : (labels : Labels) (row : Row) (insn : Insn) (b : List ℕ) → Contains ROWS row → (s : Spells row b insn) → (labels.displacement ≡ true → length s.disp ≡ 4) → (labels.immediate ≡ true → length s.imm ≡ 4) → Good labels row insn b
 plain_good labels row insn b among s ld li =
-    subst (λ (i : Insn). Good labels row i b) s.value (subst (λ (l : List ℕ). Good labels row (meaning row s.head s.modrm s.sib s.disp s.imm) l) (sym s.parts)
-    (good labels row among s.head s.first s.modrm s.sib s.disp s.imm s.is_head s.fits s.bytes.0 s.bytes.1 s.bytes.2 s.bytes.3 s.sib_len s.disp_len s.imm_len ld li))
+    subst (λ (l : List ℕ). Good labels row insn l) (sym s.parts)
+    (good labels row among s.head s.first s.modrm s.sib s.disp s.imm s.is_head s.fits s.bytes.0 s.bytes.1 s.bytes.2 s.bytes.3 s.sib_len s.disp_len s.imm_len ld li insn s.value)

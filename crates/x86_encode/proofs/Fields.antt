@@ -1,31 +1,31 @@
 -- The fields of a spelling against those of the plain one: registers, and all of ModRM.
 use Rattle.std.proofs.Common.{◌≡◌, ℕ, zero, suc, ◌+◌, ◌*◌, ◌/◌, ◌%◌, ◌<◌, ◌≤◌, Bool, true, false, cond, List, [], ◌∷◌, ◌++◌, length, Option, Some, None, refl, sym, ap, subst, ◌∙◌, arith, ◌⊎◌, inl, inr}
-use Rattle.std.specs.Prelude.{◌&&◌, nat_lt, nat_le, ◌==◌, ℤ}
+use Rattle.std.specs.Prelude.{not, ◌&&◌, nat_lt, nat_le, ◌==◌, ℤ}
 use Rattle.std.proofs.lemmas.Bool.{cases_lt, cases_Bool, and_parts, and_from, or_left, leb-true, ltb-true, le-leb, lt-ltb, lt-leb, eqb-true, eq-eqb, not-true}
 use Rattle.std.proofs.lemmas.List.{nil_from_length, length-append, get_or_past}
-use Rattle.vm_law.specs.declared.head.Rex.{Rex}
-use Rattle.vm_law.specs.declared.head.Head.{Head}
-use Rattle.vm_law.specs.declared.insn.Mem.{Mem}
+use Rattle.x86_grammar.specs.declared.head.Rex.{Rex}
+use Rattle.x86_grammar.specs.declared.head.Head.{Head}
 use Rattle.vm_law.specs.declared.insn.Width.{Width}
 use Rattle.vm_law.specs.declared.insn.Width.TheVariants as width
 use Rattle.vm_law.specs.declared.insn.Loc.{Loc}
 use Rattle.vm_law.specs.declared.insn.Loc.TheVariants as loc
-use Rattle.vm_law.specs.declared.table.Form.{Form}
-use Rattle.vm_law.specs.declared.table.Slash.{Slash}
-use Rattle.vm_law.specs.declared.table.Slash.TheVariants as slash
-use Rattle.vm_law.specs.declared.table.Side.{Side}
-use Rattle.vm_law.specs.declared.table.Side.TheVariants as side
-use Rattle.vm_law.specs.declared.table.Row.{Row}
-use Rattle.vm_law.specs.Rows.{takes, fits, implies, fits_slash, fits_side, not, has_modrm}
-use Rattle.vm_law.specs.Meaning.{eight, rex_x, rex_base, sib_len, disp_len, register, e_of, byte_of, number_of as register_of, mem_of}
-use Rattle.vm_law.specs.Grammar.{IsBytes}
+use Rattle.x86_grammar.specs.declared.table.Form.{Form}
+use Rattle.x86_grammar.specs.declared.table.Slash.{Slash}
+use Rattle.x86_grammar.specs.declared.table.Slash.TheVariants as slash
+use Rattle.x86_grammar.specs.declared.table.Side.{Side}
+use Rattle.x86_grammar.specs.declared.table.Side.TheVariants as side
+use Rattle.x86_grammar.specs.declared.table.Row.{Row}
+use Rattle.x86_grammar.specs.Rows.{takes, fits, implies, fits_slash, fits_side, has_modrm}
+use Rattle.x86_grammar.specs.Fields.{names_memory}
+use Rattle.x86_grammar.proofs.Matching.{has_rm as has_e, has_reg as has_g}
+use Rattle.x86_encode.proofs.Total.{eight, rex_x, rex_base, sib_len, disp_len, register, e_of, byte_of, register_is, memory_is}
+use Rattle.x86_grammar.specs.Grammar.{IsBytes}
 use Rattle.x86_encode.specs.Order.{lex_le}
-use Rattle.x86_encode.specs.Place.{Place, fewest_mode, fits_none, fits_byte, no_index, with_index, place_at}
-use Rattle.x86_encode.specs.Plain.{no_loc, low_of, bit_of, wants_rex, e_place, modrm_of}
+use Rattle.x86_encode.specs.Inside.Place.{Place, fewest_mode, fits_none, fits_byte, no_index, with_index, place_at}
+use Rattle.x86_encode.specs.Inside.Plain.{no_loc, low_of, bit_of, wants_rex, e_place, modrm_of}
 use Rattle.x86_encode.proofs.Registers.{reg_part}
 use Rattle.x86_encode.proofs.Operand.{operand, no_sib, no_disp, IsBytes-none}
 use Rattle.x86_encode.proofs.Below.{Le, Le-same, Le-append}
-use Rattle.x86_encode.proofs.Slots.{has_e, has_g, is_narrow}
 
 -- ---- a register in three bits, with the bit of REX above them
 
@@ -93,24 +93,11 @@ pub reg_slot : (has : Bool) (w : Width) (rex : Option Rex) (low bit : ℕ) (l : 
 reg_slot true w rex low bit l lt o n p q = subst (λ (k : Loc). RegSlot true w rex low bit k) (sym (p refl)) (some_slot w rex low bit lt o n)
 reg_slot false w rex low bit l lt o n p q = subst (λ (k : Loc). RegSlot false w rex low bit k) (sym (q refl)) (none_slot w rex low bit)
 
-pub register_wide : (w : Width) (rex : Option Rex) (n : ℕ) → is_narrow w ≡ false → register w rex n ≡ loc.Reg n
-unfolding register
-register_wide width.B rex n e = absurd cc
-register_wide width.W rex n e = refl
-register_wide width.D rex n e = refl
-register_wide width.Q rex n e = refl
-
-pub known_register : (l : Loc) (n : ℕ) → l ≡ loc.Reg n → l ≡ loc.Reg (register_of l)
-known_register l n e = e ∙ ap (λ (k : Loc). loc.Reg (register_of k)) (sym e)
-
-pub known_memory : (l : Loc) (m : Mem) → l ≡ loc.Mem m → l ≡ loc.Mem (mem_of l)
-known_memory l m e = e ∙ ap (λ (k : Loc). loc.Mem (mem_of k)) (sym e)
-
 -- ---- what a row says of ModRM
 
 abbrev pub fits_rest : Slash → Side → Bool → List ℕ → Bool
 fits_rest s d lock [] = not (has_modrm s)
-fits_rest s d lock (m ∷ []) = fits_slash s m && (fits_side d m && implies lock (nat_lt m 192))
+fits_rest s d lock (m ∷ []) = fits_slash s m && (fits_side d m && implies lock (names_memory m))
 fits_rest s d lock (m ∷ n ∷ ms) = false
 
 pub fits_split : (row : Row) (h : Head) (ms : List ℕ) → fits row h ms ≡ true → (takes row h ≡ true) × (fits_rest row.slash row.side h.prefixes.lock ms ≡ true)
@@ -264,14 +251,14 @@ tail_le m m2 s s2 d d2 a b f =
           ];
     }
 
-in_side : (d : Side) (m m2 : ℕ) → (m < 192 → m2 < 192) → (192 ≤ m → 192 ≤ m2) → fits_side d m ≡ true → fits_side d m2 ≡ true
-in_side side.Any m m2 p q t = refl
-in_side side.Mem m m2 p q t = lt-ltb m2 192 (p (ltb-true m 192 t))
-in_side side.Reg m m2 p q t = le-leb 192 m2 (q (leb-true 192 m t))
+in_side : (d : Side) (m m2 : ℕ) → m < 256 → m2 < 256 → (m < 192 → m2 < 192) → (192 ≤ m → 192 ≤ m2) → fits_side d m ≡ true → fits_side d m2 ≡ true
+in_side side.Any m m2 l k p q t = refl
+in_side side.Mem m m2 l k p q t = memory_is m2 k ∙ lt-ltb m2 192 (p (ltb-true m 192 (sym (memory_is m l) ∙ t)))
+in_side side.Reg m m2 l k p q t = register_is m2 k ∙ le-leb 192 m2 (q (leb-true 192 m (sym (register_is m l) ∙ t)))
 
-in_lock : (lock : Bool) (m m2 : ℕ) → (m < 192 → m2 < 192) → implies lock (nat_lt m 192) ≡ true → implies lock (nat_lt m2 192) ≡ true
-in_lock true m m2 p t = lt-ltb m2 192 (p (ltb-true m 192 t))
-in_lock false m m2 p t = refl
+in_lock : (lock : Bool) (m m2 : ℕ) → m < 256 → m2 < 256 → (m < 192 → m2 < 192) → implies lock (names_memory m) ≡ true → implies lock (names_memory m2) ≡ true
+in_lock true m m2 l k p t = memory_is m2 k ∙ lt-ltb m2 192 (p (ltb-true m 192 (sym (memory_is m l) ∙ t)))
+in_lock false m m2 l k p t = refl
 
 mid_fits : (m md mid : ℕ) → md ≡ m / 64 * 64 + m % 8 → mid ≤ m / 8 % 8 → m < 256 → md + mid * 8 ≤ m
 mid_fits m md mid e l b = omega arith
@@ -308,9 +295,9 @@ module _ (lg : Bool) (f : Form) (s : Slash) (d : Side) (w : Width) (rex : Option
               sib_is = a.sib_is ∙ ap sib_len (sym modrm_is);
               disp_is = a.disp_is ∙ ap (λ (l : List ℕ). disp_len l pl.sib) (sym modrm_is);
               fits = λ lock t.
-                  let t1 = and_parts (fits_slash s m) (fits_side d m && implies lock (nat_lt m 192)) t in
-                  let t2 = and_parts (fits_side d m) (implies lock (nat_lt m 192)) t1.1 in
-                  subst (λ (l : List ℕ). fits_rest s d lock l ≡ true) (sym modrm_is) (and_from (fits_slash s m2) (fits_side d m2 && implies lock (nat_lt m2 192)) (slash_fits m2 a.mid_is) (and_from (fits_side d m2) (implies lock (nat_lt m2 192)) (in_side d m m2 a.in_memory a.in_register t2.0) (in_lock lock m m2 a.in_memory t2.1)));
+                  let t1 = and_parts (fits_slash s m) (fits_side d m && implies lock (names_memory m)) t in
+                  let t2 = and_parts (fits_side d m) (implies lock (names_memory m)) t1.1 in
+                  subst (λ (l : List ℕ). fits_rest s d lock l ≡ true) (sym modrm_is) (and_from (fits_slash s m2) (fits_side d m2 && implies lock (names_memory m2)) (slash_fits m2 a.mid_is) (and_from (fits_side d m2) (implies lock (names_memory m2)) (in_side d m m2 byte small a.in_memory a.in_register t2.0) (in_lock lock m m2 byte small a.in_memory t2.1)));
             };
       }
 
@@ -350,7 +337,7 @@ modrm_part lg f (slash.Byte c) d lock w rex (m ∷ []) sib disp e g ok ge fit mb
     let high : 192 ≤ c = leb-true 192 c b.0 in
     let low : c < 256 = ltb-true c 256 b.1 in
     let ne = not_false (has_e f) k.0 in
-    let t = and_parts (m == c) (fits_side d m && implies lock (nat_lt m 192)) fit in
+    let t = and_parts (m == c) (fits_side d m && implies lock (names_memory m)) fit in
     let same : m ≡ c = slash_byte c m t.0 in
     let highm : 192 ≤ m = omega arith in
     let s0 : sib ≡ [] = nil_from_length sib (sl ∙ no_sib m highm) in
@@ -368,7 +355,7 @@ modrm_part lg f slash.Any d lock w rex (m ∷ []) sib disp e g ok ge fit mb sl d
 modrm_part lg f (slash.Digit c) d lock w rex [] sib disp e g ok ge fit mb sl dl sb db long p q r u = absurd cc
 modrm_part lg f (slash.Digit c) d lock w rex (m ∷ []) sib disp e g ok ge fit mb sl dl sb db long p q r u =
     let k = and_parts (has_e f) (not (has_g f)) ok in
-    let t = and_parts (m / 8 % 8 == c) (fits_side d m && implies lock (nat_lt m 192)) fit in
+    let t = and_parts (m / 8 % 8 == c) (fits_side d m && implies lock (names_memory m)) fit in
     let same : m / 8 % 8 ≡ c = eqb-true (m / 8 % 8) c t.0 in
     subst (λ (l : Loc). ModrmPart lg f (slash.Digit c) d w rex (m ∷ []) sib disp l (e_place lg l) g) (sym (p k.0))
     (some_part lg f (slash.Digit c) d w rex m sib disp g c k.0 (mb 0) sl dl sb db long (omega arith) (λ t. differ (has_g f) t (not_false (has_g f) k.1)) (digit_modrm (e_place lg (e_of w rex m sib disp)).mode g c (mode_small lg (e_of w rex m sib disp)) (omega arith)) (λ m2 t. eq-eqb (m2 / 8 % 8) c t))

@@ -11,4 +11,5 @@ pub mod Places
 pub mod Registers
 pub mod Rexes
 pub mod Slots
+pub mod Total
 pub mod Widths

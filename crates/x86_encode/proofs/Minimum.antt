@@ -1,24 +1,19 @@
 -- The least of the plain spellings over the table is the least of all spellings.
-use Rattle.std.proofs.Common.{◌≡◌, ℕ, ◌≤◌, Bool, true, false, List, length, refl, sym, subst, Option, Some, None}
+use Rattle.std.proofs.Common.{ℕ, ◌≤◌, Bool, false, List, length, refl, sym, subst, Option, Some, None}
 use Rattle.std.specs.Prelude.{Contains, MatchOption, IsTrue, IsSome, IfSome, ◌↔◌}
-use Rattle.vm_law.specs.declared.head.Head.{Head}
+use Rattle.x86_grammar.specs.declared.head.Head.{Head}
 use Rattle.vm_law.specs.declared.insn.Insn.{Insn}
-use Rattle.vm_law.specs.declared.table.Row.{Row}
-use Rattle.vm_law.specs.declared.table.TheConstants.{ROWS}
-use Rattle.vm_law.specs.Rows.{fits}
-use Rattle.vm_law.specs.Grammar.{IsHead, Spells, Spelled}
-use Rattle.vm_law.proofs.Opcodes.{takes_parts, takes_from_fits}
+use Rattle.x86_grammar.specs.declared.table.Row.{Row}
+use Rattle.x86_grammar.specs.declared.table.TheConstants.{ROWS}
+use Rattle.x86_grammar.specs.Grammar.{IsHead, Spells, Spelled}
 use Rattle.x86_decode.proofs.Lengths.{at_most_15}
 use Rattle.x86_encode.specs.declared.labels.Labels.{Labels}
-use Rattle.x86_encode.specs.Plain.{Parts, prefix_bytes, rex_bytes, opcode_bytes, head_bytes, written}
+use Rattle.x86_encode.specs.Inside.Plain.{Parts, prefix_bytes, rex_bytes, opcode_bytes, head_bytes, written}
 use Rattle.x86_encode.specs.Canonical.{HasSpelling, IsCanonical, Labelled, HasLabelled, IsCanonicalWith}
-use Rattle.x86_encode.specs.Selecting.{Fitting, HoldsLabels, IsLeast, NoneFits, plain_by}
+use Rattle.x86_encode.specs.Inside.Selecting.{Fitting, HoldsLabels, IsLeast, NoneFits, plain_by}
 use Rattle.x86_encode.proofs.Order.{before_trans}
 use Rattle.x86_encode.proofs.Rexes.{is_rex_for, prefixes_are}
 use Rattle.x86_encode.proofs.Canon.{is_opcode, plain_good}
-
-pub fits_below : (row : Row) (h : Head) (ms : List ℕ) → fits row h ms ≡ true → row.byte ≤ h.byte
-fits_below row h ms e = (takes_parts row h (takes_from_fits h ms row e)).low
 
 head_spelled : (h : Head) → IsHead h (head_bytes h)
 unfolding head_bytes

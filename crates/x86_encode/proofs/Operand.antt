@@ -3,17 +3,17 @@ use Rattle.std.proofs.Common.{◌≡◌, ℕ, ◌+◌, ◌*◌, ◌/◌, ◌%◌
 use Rattle.std.specs.Prelude.{ℤ, nat_le, ◌==◌}
 use Rattle.std.proofs.lemmas.Bool.{cases_lt, le-ltb, le-leb, lt-leb, and_left, leb-true}
 use Rattle.std.proofs.lemmas.List.{nil_from_length, get_or_past}
-use Rattle.vm_law.specs.declared.head.Rex.{Rex}
+use Rattle.x86_grammar.specs.declared.head.Rex.{Rex}
 use Rattle.vm_law.specs.declared.insn.Mem.{Mem}
 use Rattle.vm_law.specs.declared.insn.Width.{Width}
 use Rattle.vm_law.specs.declared.insn.Width.TheVariants as width
 use Rattle.vm_law.specs.declared.insn.Loc.{Loc}
 use Rattle.vm_law.specs.declared.insn.Loc.TheVariants as loc
-use Rattle.vm_law.specs.Meaning.{eight, rex_x, rex_base, sib_len, disp_len, base_field, address, register, e_of}
-use Rattle.vm_law.specs.Grammar.{IsBytes}
+use Rattle.x86_encode.proofs.Total.{eight, rex_x, rex_base, sib_len, disp_len, base_field, address, register, e_of}
+use Rattle.x86_grammar.specs.Grammar.{IsBytes}
 use Rattle.x86_encode.specs.Order.{lex_le}
-use Rattle.x86_encode.specs.Place.{Place, fewest_bytes, no_index, with_index, place_at, place_of}
-use Rattle.x86_encode.specs.Plain.{wants_rex, e_place}
+use Rattle.x86_encode.specs.Inside.Place.{Place, fewest_bytes, no_index, with_index, place_at, place_of}
+use Rattle.x86_encode.specs.Inside.Plain.{wants_rex, e_place}
 use Rattle.x86_encode.proofs.Places.{b_cases, below}
 use Rattle.x86_encode.proofs.Registers.{reg_part, place_again}
 

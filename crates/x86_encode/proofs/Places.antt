@@ -7,13 +7,13 @@ use Rattle.std.proofs.lemmas.Bool.Decides.{nat_tests}
 use Rattle.std.proofs.lemmas.Int.{of_z-to_z}
 use Rattle.std.proofs.lemmas.Nat.{le_bytes_4}
 use Rattle.std.proofs.lemmas.List.{nil_from_length, get_or_past}
-use Rattle.vm_law.specs.declared.head.Rex.{Rex}
+use Rattle.x86_grammar.specs.declared.head.Rex.{Rex}
 use Rattle.vm_law.specs.declared.insn.Mem.{Mem}
-use Rattle.vm_law.specs.Rows.{not}
-use Rattle.vm_law.specs.Meaning.{eight, rex_x, rex_base, sib_len, disp_len, base_field, short_signed_of, scale_of, base_of, address}
-use Rattle.vm_law.specs.Grammar.{IsBytes}
+use Rattle.std.specs.Prelude.{not}
+use Rattle.x86_encode.proofs.Total.{eight, rex_x, rex_base, sib_len, disp_len, base_field, short_signed_of, scale_of, base_of, address}
+use Rattle.x86_grammar.specs.Grammar.{IsBytes}
 use Rattle.x86_encode.specs.Order.{lex_le}
-use Rattle.x86_encode.specs.Place.{Place, is_none, is_byte, fits_none, fits_byte, disp8, disp32, fewest_mode, fewest_bytes, scale_bits, no_index, with_index, place_of}
+use Rattle.x86_encode.specs.Inside.Place.{Place, is_none, is_byte, fits_none, fits_byte, disp8, disp32, fewest_mode, fewest_bytes, scale_bits, no_index, with_index, place_of}
 
 -- ---- displacements
 

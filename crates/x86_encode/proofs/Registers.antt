@@ -2,16 +2,17 @@
 use Rattle.std.proofs.Common.{◌≡◌, ℕ, ◌+◌, ◌-◌, ◌*◌, ◌/◌, ◌%◌, ◌<◌, ◌≤◌, Bool, true, false, cond, List, [], ◌∷◌, length, Option, Some, None, refl, sym, ap, subst, ◌∙◌, arith, inl, inr}
 use Rattle.std.specs.Prelude.{◌&&◌, nat_lt, nat_le}
 use Rattle.std.proofs.lemmas.Bool.{cases_lt, cases_eq, lt-ltb, le-ltb, le-leb, lt-leb, and_from, and_parts, leb-true}
-use Rattle.vm_law.specs.declared.head.Rex.{Rex}
+use Rattle.x86_grammar.specs.declared.head.Rex.{Rex}
 use Rattle.vm_law.specs.declared.insn.Mem.{Mem}
 use Rattle.vm_law.specs.declared.insn.Width.{Width}
 use Rattle.vm_law.specs.declared.insn.Width.TheVariants as width
 use Rattle.vm_law.specs.declared.insn.Loc.{Loc}
 use Rattle.vm_law.specs.declared.insn.Loc.TheVariants as loc
-use Rattle.vm_law.specs.Meaning.{eight, rex_x, rex_base, sib_len, disp_len, short_signed_of, scale_of, address, register}
-use Rattle.vm_law.specs.Grammar.{IsBytes}
-use Rattle.x86_encode.specs.Place.{Place, fewest_mode, fewest_bytes, scale_bits, place_of}
-use Rattle.x86_encode.specs.Plain.{low_of, bit_of, wants_rex, e_place}
+use Rattle.x86_grammar.specs.Operands.{general_register}
+use Rattle.x86_encode.proofs.Total.{eight, rex_x, rex_base, sib_len, disp_len, short_signed_of, scale_of, address, register}
+use Rattle.x86_grammar.specs.Grammar.{IsBytes}
+use Rattle.x86_encode.specs.Inside.Place.{Place, fewest_mode, fewest_bytes, scale_bits, place_of}
+use Rattle.x86_encode.specs.Inside.Plain.{low_of, bit_of, wants_rex, e_place}
 use Rattle.x86_encode.proofs.Places.{IsDisp, at_place, mem_of, x_cases, b_cases, four_back, bare_rip, bare_base, rip_place, sib_place, bare_place, sib_none, sib_some, base_none, base_some, no_base_place, index_place, both_place, sib_back, base_low, long_disp, plain_disp, cases_both, sib_one, sib_two}
 use Rattle.x86_encode.proofs.Again.{Again, again_rip, again_bare, again_sib, again_neither, again_index, again_both}
 
@@ -126,7 +127,7 @@ unfolding low_of bit_of e_place
 reg_plain w rex n l wants again = record { low = refl; bit = refl; wants = wants; place = λ lg. refl; again = again }
 
 byte_again : (rex2 : Option Rex) (n : ℕ) → (rex2 ≡ None → (wants_rex width.B (loc.Reg n) ≡ false) × (n < 8)) → register width.B rex2 n ≡ loc.Reg n
-unfolding register
+unfolding general_register
 byte_again (Some r) n q = refl
 byte_again None n q =
     let k = q refl in
@@ -141,7 +142,7 @@ high_place n a l =
     ap (λ (k : ℕ). at_place k [] [] false false) e ∙ ap (λ (t : Bool). at_place (192 + n % 8) [] [] false t) (sym (lt-leb 8 n l))
 
 byte_part : (n : ℕ) → n < 8 → RegPart width.B None n (cond (nat_lt n 4) (loc.Reg n) (loc.High (n - 4)))
-unfolding register low_of bit_of e_place
+unfolding general_register low_of bit_of e_place
 byte_part n l =
     elim (cases_lt n 4) [
       | inl a ↦ subst (λ (t : Bool). RegPart width.B None n (cond t (loc.Reg n) (loc.High (n - 4)))) (sym (lt-ltb n 4 a))
@@ -163,7 +164,7 @@ byte_part n l =
     ]
 
 pub reg_part : (w : Width) (rex : Option Rex) (n : ℕ) → n < 16 → (rex ≡ None → n < 8) → RegPart w rex n (register w rex n)
-unfolding register low_of bit_of e_place
+unfolding general_register low_of bit_of e_place
 reg_part width.W rex n l k = reg_plain width.W rex n l (λ e. absurd cc) (λ rex2 p q. refl)
 reg_part width.D rex n l k = reg_plain width.D rex n l (λ e. absurd cc) (λ rex2 p q. refl)
 reg_part width.Q rex n l k = reg_plain width.Q rex n l (λ e. absurd cc) (λ rex2 p q. refl)

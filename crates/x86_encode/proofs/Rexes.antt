@@ -2,12 +2,13 @@
 use Rattle.std.proofs.Common.{◌≡◌, ℕ, ◌+◌, ◌*◌, ◌/◌, ◌%◌, ◌<◌, ◌≤◌, Bool, true, false, cond, List, [], ◌∷◌, length, Option, Some, None, refl, sym, ap, subst, ◌∙◌, arith, inl, inr}
 use Rattle.std.specs.Prelude.{◌||◌}
 use Rattle.std.proofs.lemmas.Bool.{cases_Bool, and_parts, leb-true, ltb-true, eqb-true, or_from, false_from_ne_true}
-use Rattle.vm_law.specs.declared.head.Rex.{Rex}
-use Rattle.vm_law.specs.Rows.{no_prefix, add_prefix, is_rex, rex_of, rex_w}
-use Rattle.vm_law.specs.Meaning.{eight, rex_r, rex_x, rex_base}
-use Rattle.vm_law.specs.Grammar.{IsRex, ArePrefixes}
+use Rattle.x86_grammar.specs.declared.head.Rex.{Rex}
+use Rattle.x86_grammar.specs.Rows.{no_prefix, add_prefix, is_rex, rex_of}
+use Rattle.x86_grammar.specs.Fields.{rex_w}
+use Rattle.x86_encode.proofs.Total.{eight, rex_r, rex_x, rex_base}
+use Rattle.x86_grammar.specs.Grammar.{IsRex, ArePrefixes}
 use Rattle.x86_encode.specs.Order.{lex_le}
-use Rattle.x86_encode.specs.Plain.{rex_for, rex_bytes, weight, prefix_bytes}
+use Rattle.x86_encode.specs.Inside.Plain.{rex_for, rex_bytes, weight, prefix_bytes}
 use Rattle.x86_encode.proofs.Places.{lex_one}
 
 abbrev pub rex_bits : Bool → Bool → Bool → Bool → Rex

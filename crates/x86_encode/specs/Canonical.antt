@@ -1,9 +1,9 @@
 -- The canonical spelling of an instruction: the least of all its spellings.
 use Rattle.std.specs.Prelude.{◌≡◌, ℕ, true, List, length, Contains}
 use Rattle.vm_law.specs.declared.insn.Insn.{Insn}
-use Rattle.vm_law.specs.declared.table.Row.{Row}
-use Rattle.vm_law.specs.declared.table.TheConstants.{ROWS}
-use Rattle.vm_law.specs.Grammar.{Spells, Spelled}
+use Rattle.x86_grammar.specs.declared.table.Row.{Row}
+use Rattle.x86_grammar.specs.declared.table.TheConstants.{ROWS}
+use Rattle.x86_grammar.specs.Grammar.{Spells, Spelled}
 use Rattle.x86_encode.specs.declared.labels.Labels.{Labels}
 use Rattle.x86_encode.specs.Order.{before}
 

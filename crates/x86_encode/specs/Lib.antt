@@ -1,6 +1,3 @@
 pub mod Canonical
+pub mod Inside
 pub mod Order
-pub mod Place
-pub mod Plain
-pub mod Seen
-pub mod Selecting

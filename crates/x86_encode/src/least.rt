@@ -1,18 +1,20 @@
 ghost use Rattle.std.specs.Prelude.{◌≡◌, ◌↔◌, if◌then◌else◌, IsTrue, true, MatchOption, IfSome, length, ◌≤◌};
 ghost use Rattle.std.specs.Option.{option_map};
+ghost use Rattle.x86_grammar.specs.Meaning.{meaning};
 ghost use Rattle.x86_encode.specs.Canonical.{HasLabelled, IsCanonicalWith};
 ghost use Rattle.x86_encode.specs.Order.{lex_le, before};
-ghost use Rattle.x86_encode.specs.Plain.{Parts, written};
-ghost use Rattle.x86_encode.specs.Seen.{parts_of};
-ghost use Rattle.x86_encode.specs.Selecting.{Fitting, HoldsLabels, Fits, IsLeast, NoneFits, plain_by, better_of};
+ghost use Rattle.x86_encode.specs.Inside.Plain.{Parts, written};
+ghost use Rattle.x86_encode.specs.Inside.Seen.{parts_of};
+ghost use Rattle.x86_encode.specs.Inside.Selecting.{Fitting, HoldsLabels, Fits, IsLeast, NoneFits, plain_by, better_of};
 
 use crate::labels::Labels;
 use crate::plain::{Spelling, Text, plain, write};
 use crate::same::same_insn;
-use vm_law::{Head, Insn, ROWS, Row};
+use vm_law::Insn;
 use x86_decode::meaning::meaning;
-use x86_decode::operand::{disp_len, imm_len, sib_len, width_of};
-use x86_decode::reading::fits;
+use x86_decode::operands::{disp_len, imm_len, sib_len, width_of};
+use x86_decode::rows::fits;
+use x86_grammar::{Head, ROWS, Row};
 
 fn lex_le(a: &[u8], b: &[u8]) -> bool
     ensures { result ≡ lex_le a.now b.now }
@@ -32,8 +34,25 @@ fn before(a: &[u8], b: &[u8]) -> bool
     a.len() < b.len() || a.len() == b.len() && lex_le(a, b)
 }
 
+/// Whether the parts mean the instruction by the row.
+fn means(
+    row: &Row,
+    head: &Head,
+    modrm: &[u8],
+    sib: &[u8],
+    disp: &[u8],
+    imm: &[u8],
+    insn: &Insn,
+) -> bool
+    ensures { IsTrue result ↔ (meaning row.now head.now modrm.now sib.now disp.now imm.now ≡ Some insn.now) }
+{
+    match meaning(row, head, modrm, sib, disp, imm) {
+        None => false,
+        Some(meant) => same_insn(&meant, insn),
+    }
+}
+
 /// Whether the parts are those of a spelling of the instruction by the row.
-#[tactic(auto, using(crate::proofs::Minimum::fits_below))]
 fn parts_fit(
     row: &Row,
     head: &Head,
@@ -49,7 +68,7 @@ fn parts_fit(
         && sib.len() == sib_len(modrm)
         && disp.len() == disp_len(modrm, sib)
         && imm.len() == imm_len(row.imm, width_of(row.class, head.prefixes, head.rex))
-        && same_insn(&meaning(row, head, modrm, sib, disp, imm), insn)
+        && means(row, head, modrm, sib, disp, imm, insn)
 }
 
 fn is_fitting(row: &Row, s: &Spelling, insn: &Insn) -> bool

@@ -5,8 +5,11 @@
 //! by length and then byte by byte, and [`spelled`] tells whether there is one. [`encode_labelled`] and
 //! [`labelled`] do the same for an instruction whose displacement or immediate is still to hold a label,
 //! over the spellings with 32 bits for it. [`encoded_decodes`] is the law that what is written is read back.
-//! Spellings are those of the grammar of instructions in `vm_law`. Source: Intel SDM volume 2,
+//! Spellings are those of the grammar of instructions in `x86_grammar`. Source: Intel SDM volume 2,
 //! sections 2.1 to 2.2 and appendix A; that the least is taken is this project's own rule.
+//!
+//! `specs/Canonical.antt` and `specs/Order.antt` say what is promised. `specs/Inside` is for the proof alone: it defines what
+//! the code's own functions compute, and no public contract cites it.
 #![tactic(auto)]
 
 mod encoder;
@@ -20,7 +23,5 @@ mod same;
 pub use encoder::{encode, encode_labelled, encoded_decodes, labelled, spelled};
 pub use labels::Labels;
 
-#[cfg(test)]
-mod cases;
 #[cfg(test)]
 mod tests;

@@ -1,8 +1,17 @@
 ghost use Rattle.std.specs.Prelude.{◌≡◌, ◌<◌};
-ghost use Rattle.x86_encode.specs.Plain.{optional_loc, first_of, second_of, e_loc, g_loc, o_loc, condition_of, source_number, count_number, port_number, number_of, low_of, bit_of, wants_rex};
+ghost use Rattle.x86_encode.specs.Inside.Plain.{loc_of, optional_loc, first_of, second_of, e_loc, g_loc, o_loc, condition_number, condition_of, source_number, count_number, port_number, number_of, low_of, bit_of, wants_rex};
 
-use vm_law::{Count, Form, Loc, Op, Src, Width};
-use x86_decode::meaning::place_of as loc_of;
+use vm_law::{Condition, Count, Loc, Op, Src, Width};
+use x86_grammar::Form;
+
+fn loc_of(operand: Src) -> Loc
+    ensures { result ≡ loc_of operand }
+{
+    match operand {
+        Src::Loc(l) => l,
+        Src::Imm(_) => Loc::Reg(0),
+    }
+}
 
 fn optional(l: Option<Loc>) -> Loc
     ensures { result ≡ optional_loc l }
@@ -14,7 +23,7 @@ fn optional(l: Option<Loc>) -> Loc
 }
 
 /// The operand that an operation names first.
-#[tactic(auto, unfolding(crate::specs::Plain::first_of))]
+#[tactic(auto, unfolding(crate::specs::Inside::Plain::first_of))]
 fn first_of(op: Op) -> Loc
     ensures { result ≡ first_of op }
 {
@@ -40,7 +49,7 @@ fn first_of(op: Op) -> Loc
 }
 
 /// The operand that it names second.
-#[tactic(auto, unfolding(crate::specs::Plain::second_of))]
+#[tactic(auto, unfolding(crate::specs::Inside::Plain::second_of))]
 fn second_of(op: Op) -> Loc
     ensures { result ≡ second_of op }
 {
@@ -55,31 +64,31 @@ fn second_of(op: Op) -> Loc
 }
 
 /// What stands in the last field of the ModRM byte.
-#[tactic(auto, unfolding(crate::specs::Plain::e_loc))]
+#[tactic(auto, unfolding(crate::specs::Inside::Plain::e_loc))]
 pub(crate) fn e_loc(form: Form, op: Op) -> Loc
     ensures { result ≡ e_loc form op }
 {
     match form {
         Form::EG | Form::EI | Form::E => first_of(op),
-        Form::GE => second_of(op),
+        Form::GE | Form::GEI => second_of(op),
         _ => Loc::Reg(0),
     }
 }
 
 /// What stands in its middle field.
-#[tactic(auto, unfolding(crate::specs::Plain::g_loc))]
+#[tactic(auto, unfolding(crate::specs::Inside::Plain::g_loc))]
 pub(crate) fn g_loc(form: Form, op: Op) -> Loc
     ensures { result ≡ g_loc form op }
 {
     match form {
         Form::EG => second_of(op),
-        Form::GE => first_of(op),
+        Form::GE | Form::GEI => first_of(op),
         _ => Loc::Reg(0),
     }
 }
 
 /// What stands in the opcode byte.
-#[tactic(auto, unfolding(crate::specs::Plain::o_loc))]
+#[tactic(auto, unfolding(crate::specs::Inside::Plain::o_loc))]
 pub(crate) fn o_loc(form: Form, op: Op) -> Loc
     ensures { result ≡ o_loc form op }
 {
@@ -89,13 +98,38 @@ pub(crate) fn o_loc(form: Form, op: Op) -> Loc
     }
 }
 
-/// The condition of an operation that has one.
-#[tactic(auto, unfolding(crate::specs::Plain::condition_of))]
+/// The number of a condition in an opcode byte.
+#[tactic(auto, unfolding(crate::specs::Inside::Plain::condition_number))]
+fn condition_number(condition: Condition) -> u8
+    ensures { result ≡ condition_number condition }
+{
+    match condition {
+        Condition::O => 0,
+        Condition::No => 1,
+        Condition::B => 2,
+        Condition::Ae => 3,
+        Condition::E => 4,
+        Condition::Ne => 5,
+        Condition::Be => 6,
+        Condition::A => 7,
+        Condition::S => 8,
+        Condition::Ns => 9,
+        Condition::P => 10,
+        Condition::Np => 11,
+        Condition::L => 12,
+        Condition::Ge => 13,
+        Condition::Le => 14,
+        Condition::G => 15,
+    }
+}
+
+/// The number of an operation's condition, where it has one.
+#[tactic(auto, unfolding(crate::specs::Inside::Plain::condition_of))]
 pub(crate) fn condition_of(op: Op) -> u8
     ensures { result ≡ condition_of op }
 {
     match op {
-        Op::SetCc(c, _) | Op::CMov(c, _, _) | Op::Jcc(c, _) => c,
+        Op::SetCc(c, _) | Op::CMov(c, _, _) | Op::Jcc(c, _) => condition_number(c),
         _ => 0,
     }
 }
@@ -128,7 +162,7 @@ fn port_number(p: Option<u8>) -> i64
 }
 
 /// The number of an operation that has one.
-#[tactic(auto, unfolding(crate::specs::Plain::number_of))]
+#[tactic(auto, unfolding(crate::specs::Inside::Plain::number_of))]
 pub(crate) fn number_of(op: Op) -> i64
     ensures { result ≡ number_of op }
 {
@@ -149,7 +183,7 @@ pub(crate) fn number_of(op: Op) -> i64
 }
 
 /// A register's number without its top bit.
-#[tactic(auto, unfolding(crate::specs::Plain::low_of))]
+#[tactic(auto, unfolding(crate::specs::Inside::Plain::low_of))]
 pub(crate) fn low_of(l: Loc) -> u8
     ensures value { result ≡ low_of l }
     ensures small { result < 8 }
@@ -162,7 +196,7 @@ pub(crate) fn low_of(l: Loc) -> u8
 }
 
 /// The top bit of a register's number.
-#[tactic(auto, unfolding(crate::specs::Plain::bit_of))]
+#[tactic(auto, unfolding(crate::specs::Inside::Plain::bit_of))]
 pub(crate) fn bit_of(l: Loc) -> bool
     ensures { result ≡ bit_of l }
 {

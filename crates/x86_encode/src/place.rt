@@ -1,6 +1,6 @@
 ghost use Rattle.std.specs.Prelude.{◌≡◌, ◌≤◌, ◌%◌};
-ghost use Rattle.x86_encode.specs.Place.{is_none, is_byte, fits_none, fits_byte, fewest_mode, fewest_bytes, scale_bits, place_of, no_index, with_index};
-ghost use Rattle.x86_encode.specs.Seen.{seen, disp_bytes};
+ghost use Rattle.x86_encode.specs.Inside.Place.{is_none, is_byte, fits_none, fits_byte, fewest_mode, fewest_bytes, scale_bits, place_of, no_index, with_index};
+ghost use Rattle.x86_encode.specs.Inside.Seen.{seen, disp_bytes};
 
 use vm_law::Mem;
 
@@ -49,7 +49,7 @@ fn fits_byte(long: bool, d: i32) -> bool
 }
 
 /// The fewest bytes for a displacement behind a base, or four, with the mode that says so.
-#[tactic(auto, unfolding(crate::specs::Place::fewest_mode, crate::specs::Place::fewest_bytes))]
+#[tactic(auto, unfolding(crate::specs::Inside::Place::fewest_mode, crate::specs::Inside::Place::fewest_bytes))]
 fn fewest(long: bool, low: u8, d: i32) -> (u8, Size)
     ensures mode { result.0 ≡ fewest_mode long low d }
     ensures bytes { disp_bytes result.1 d ≡ fewest_bytes long low d }
@@ -76,7 +76,7 @@ fn scale_bits(scale: u8) -> u8
     }
 }
 
-#[tactic(auto, unfolding(crate::specs::Place::no_index))]
+#[tactic(auto, unfolding(crate::specs::Inside::Place::no_index))]
 fn no_index(long: bool, base: Option<u8>, rip: bool, d: i32) -> Written
     ensures { seen result ≡ no_index long base rip d }
 {
@@ -113,7 +113,7 @@ fn no_index(long: bool, base: Option<u8>, rip: bool, d: i32) -> Written
     }
 }
 
-#[tactic(auto, unfolding(crate::specs::Place::with_index))]
+#[tactic(auto, unfolding(crate::specs::Inside::Place::with_index))]
 fn with_index(long: bool, base: Option<u8>, index: u8, scale: u8, d: i32) -> Written
     ensures { seen result ≡ with_index long base index scale d }
 {

@@ -1,15 +1,16 @@
 ghost use Rattle.std.specs.Prelude.{◌≡◌, ◌+◌, ◌≤◌, ◌<◌, ◌++◌, ◌||◌, if◌then◌else◌, [], ◌∷◌, length};
 ghost use Rattle.arrayvec.specs.ArrayVec.{array_vec_len};
-ghost use Rattle.x86_encode.specs.Plain.{e_place, modrm_of, needs_wide, is_quad, is_word, takes_wide, must_have_rex, is_wide, is_sized, condition_of, rex_for, head_of, plain, number_bytes, one_if, prefix_bytes, weight, rex_bytes, opcode_bytes, head_bytes, written};
-ghost use Rattle.x86_encode.specs.Seen.{seen, one_or_none, disp_bytes, parts_of};
+ghost use Rattle.x86_encode.specs.Inside.Plain.{e_place, modrm_of, needs_wide, is_quad, is_word, takes_wide, must_have_rex, is_wide, is_sized, condition_of, rex_for, head_of, plain, number_bytes, one_if, prefix_bytes, weight, rex_bytes, opcode_bytes, head_bytes, written};
+ghost use Rattle.x86_encode.specs.Inside.Seen.{seen, one_or_none, disp_bytes, parts_of};
 
 use crate::operands::{bit_of, condition_of, e_loc, g_loc, low_of, number_of, o_loc, wants_rex};
 use crate::place::{Size, Written, place_of};
 use arrayvec::ArrayVec;
-use vm_law::{Class, Head, Insn, Loc, Map, Need, Prefixes, Rex, Row, Slash, Width};
-use x86_decode::meaning::source_width;
-use x86_decode::operand::imm_len;
-use x86_decode::reading::takes_size;
+use vm_law::{Insn, Loc, Width};
+use x86_decode::meaning::rm_width;
+use x86_decode::operands::imm_len;
+use x86_decode::rows::takes_size;
+use x86_grammar::{Class, Head, Map, Need, Prefixes, Rex, Row, Slash};
 
 /// The bytes of a spelling.
 pub(crate) type Text = ArrayVec<u8, 24>;
@@ -24,7 +25,7 @@ pub(crate) struct Spelling {
     pub imm: ArrayVec<u8, 8>,
 }
 
-#[tactic(auto, unfolding(crate::specs::Plain::e_place))]
+#[tactic(auto, unfolding(crate::specs::Inside::Plain::e_place))]
 fn e_place(long: bool, l: Loc) -> Written
     ensures { seen result ≡ e_place long l }
 {
@@ -74,7 +75,7 @@ fn takes_wide(class: Class) -> bool
 }
 
 /// Whether an operand is a register that stands only with a REX byte.
-#[tactic(auto, unfolding(crate::specs::Plain::must_have_rex))]
+#[tactic(auto, unfolding(crate::specs::Inside::Plain::must_have_rex))]
 fn must_have_rex(ew: Width, w: Width, e: Loc, g: Loc, o: Loc) -> bool
     ensures { result ≡ must_have_rex ew w e g o }
 {
@@ -82,7 +83,7 @@ fn must_have_rex(ew: Width, w: Width, e: Loc, g: Loc, o: Loc) -> bool
 }
 
 /// Whether REX.W stands.
-#[tactic(auto, unfolding(crate::specs::Plain::is_wide))]
+#[tactic(auto, unfolding(crate::specs::Inside::Plain::is_wide))]
 fn is_wide(need: Need, class: Class, w: Width) -> bool
     ensures { result ≡ is_wide need class w }
 {
@@ -90,7 +91,7 @@ fn is_wide(need: Need, class: Class, w: Width) -> bool
 }
 
 /// Whether 66 stands.
-#[tactic(auto, unfolding(crate::specs::Plain::is_sized))]
+#[tactic(auto, unfolding(crate::specs::Inside::Plain::is_sized))]
 fn is_sized(class: Class, w: Width) -> bool
     ensures { result ≡ is_sized class w }
 {
@@ -115,12 +116,12 @@ fn rex_for(must: bool, w: bool, r: bool, x: bool, b: bool) -> Option<Rex>
 }
 
 /// The prefixes, the REX byte and the opcode.
-#[tactic(auto, unfolding(crate::specs::Plain::head_of))]
+#[tactic(auto, unfolding(crate::specs::Inside::Plain::head_of))]
 fn head_of(row: &Row, insn: &Insn, e: Loc, g: Loc, o: Loc, place: &Written) -> Head
     ensures { result ≡ head_of row.now insn.now.width insn.now.lock (condition_of insn.now.op) e g o (seen place.now) }
 {
     let w = insn.width;
-    let must = must_have_rex(source_width(row.kind, w), w, e, g, o);
+    let must = must_have_rex(rm_width(row.kind, w), w, e, g, o);
     let wide = is_wide(row.need, row.class, w);
     let b = either(place.b, bit_of(o));
     let prefixes = Prefixes {
@@ -138,7 +139,7 @@ fn head_of(row: &Row, insn: &Insn, e: Loc, g: Loc, o: Loc, place: &Written) -> H
 }
 
 /// The ModRM byte, where there is one.
-#[tactic(auto, unfolding(crate::specs::Plain::modrm_of))]
+#[tactic(auto, unfolding(crate::specs::Inside::Plain::modrm_of))]
 fn modrm_of(slash: Slash, mode: u8, g: u8) -> ArrayVec<u8, 1>
     requires { g < 8 }
     ensures { result.items ≡ modrm_of slash mode g }
@@ -176,7 +177,7 @@ fn disp_of(size: Size, disp: i32) -> ArrayVec<u8, 4>
 }
 
 /// The low bytes of a number.
-#[tactic(auto, unfolding(crate::specs::Plain::number_bytes))]
+#[tactic(auto, unfolding(crate::specs::Inside::Plain::number_bytes))]
 fn number_bytes(count: usize, number: i64) -> ArrayVec<u8, 8>
     requires { count ≤ 8 }
     ensures { result.items ≡ number_bytes count number }
@@ -188,7 +189,7 @@ fn number_bytes(count: usize, number: i64) -> ArrayVec<u8, 8>
 }
 
 /// The parts of the plain spelling by a row, with a long displacement where it is asked.
-#[tactic(auto, using(crate::proofs::Numbers::imm_small), unfolding(crate::specs::Plain::plain))]
+#[tactic(auto, using(crate::proofs::Numbers::imm_small), unfolding(crate::specs::Inside::Plain::plain))]
 pub(crate) fn plain(long: bool, row: &Row, insn: &Insn) -> Spelling
     ensures { parts_of result ≡ plain long row.now insn.now }
 {
@@ -232,7 +233,7 @@ fn put_if(out: &mut Text, when: bool, byte: u8)
     }
 }
 
-#[tactic(auto, unfolding(crate::specs::Plain::prefix_bytes))]
+#[tactic(auto, unfolding(crate::specs::Inside::Plain::prefix_bytes))]
 fn put_prefixes(out: &mut Text, size: bool, lock: bool, rep: bool)
     requires { array_vec_len out.old ≤ 20 }
     ensures items { out.new.items ≡ out.old.items ++ prefix_bytes size lock rep }
@@ -243,7 +244,7 @@ fn put_prefixes(out: &mut Text, size: bool, lock: bool, rep: bool)
     put_if(out, rep, 0xF3);
 }
 
-#[tactic(auto, unfolding(crate::specs::Plain::rex_bytes))]
+#[tactic(auto, unfolding(crate::specs::Inside::Plain::rex_bytes))]
 fn put_rex(out: &mut Text, rex: Option<Rex>)
     requires { array_vec_len out.old ≤ 20 }
     ensures items { out.new.items ≡ out.old.items ++ rex_bytes rex }
@@ -255,7 +256,7 @@ fn put_rex(out: &mut Text, rex: Option<Rex>)
     }
 }
 
-#[tactic(auto, unfolding(crate::specs::Plain::opcode_bytes))]
+#[tactic(auto, unfolding(crate::specs::Inside::Plain::opcode_bytes))]
 fn put_opcode(out: &mut Text, map: Map, byte: u8)
     requires { array_vec_len out.old ≤ 20 }
     ensures items { out.new.items ≡ out.old.items ++ opcode_bytes map byte }
@@ -270,7 +271,7 @@ fn put_opcode(out: &mut Text, map: Map, byte: u8)
     }
 }
 
-#[tactic(auto, unfolding(crate::specs::Plain::head_bytes))]
+#[tactic(auto, unfolding(crate::specs::Inside::Plain::head_bytes))]
 fn put_head(out: &mut Text, head: &Head)
     requires { array_vec_len out.old ≡ 0 }
     ensures items { out.new.items ≡ out.old.items ++ head_bytes head.now }
@@ -287,7 +288,7 @@ fn put_head(out: &mut Text, head: &Head)
 }
 
 /// The bytes of a spelling with these parts.
-#[tactic(auto, unfolding(crate::specs::Plain::written))]
+#[tactic(auto, unfolding(crate::specs::Inside::Plain::written))]
 pub(crate) fn write(spelling: &Spelling) -> Text
     ensures { result.items ≡ written (parts_of spelling.now) }
 {

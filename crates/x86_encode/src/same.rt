@@ -1,6 +1,8 @@
 ghost use Rattle.std.specs.Prelude.{◌≡◌, ◌↔◌, IsTrue};
 
-use vm_law::{Count, Insn, Loc, Mem, Op, Src, Width};
+use vm_law::{
+    ArithmeticOp, BitTestOp, Condition, Count, Insn, Loc, Mem, Op, ShiftOp, Src, UnaryOp, Width,
+};
 
 // Whether a value is of this variant, and its fields pass the test.
 macro_rules! same {
@@ -20,6 +22,36 @@ fn same_option(a: Option<u8>, b: Option<u8>) -> bool
 }
 
 fn same_width(a: Width, b: Width) -> bool
+    ensures { IsTrue result ↔ (a ≡ b) }
+{
+    a == b
+}
+
+fn same_arithmetic(a: ArithmeticOp, b: ArithmeticOp) -> bool
+    ensures { IsTrue result ↔ (a ≡ b) }
+{
+    a == b
+}
+
+fn same_unary(a: UnaryOp, b: UnaryOp) -> bool
+    ensures { IsTrue result ↔ (a ≡ b) }
+{
+    a == b
+}
+
+fn same_shift(a: ShiftOp, b: ShiftOp) -> bool
+    ensures { IsTrue result ↔ (a ≡ b) }
+{
+    a == b
+}
+
+fn same_bit_test(a: BitTestOp, b: BitTestOp) -> bool
+    ensures { IsTrue result ↔ (a ≡ b) }
+{
+    a == b
+}
+
+fn same_condition(a: Condition, b: Condition) -> bool
     ensures { IsTrue result ↔ (a ≡ b) }
 {
     a == b
@@ -77,9 +109,10 @@ fn same_op(a: &Op, b: &Op) -> bool
 {
     match a {
         Op::Alu(x0, x1, x2) =>
-            same!(b is Op::Alu(y0, y1, y2) => *x0 == *y0 && same_loc(x1, y1) && same_src(x2, y2)),
+            same!(b is Op::Alu(y0, y1, y2) => same_arithmetic(*x0, *y0) && same_loc(x1, y1) && same_src(x2, y2)),
         Op::Test(x0, x1) => same!(b is Op::Test(y0, y1) => same_loc(x0, y0) && same_src(x1, y1)),
-        Op::Unary(x0, x1) => same!(b is Op::Unary(y0, y1) => *x0 == *y0 && same_loc(x1, y1)),
+        Op::Unary(x0, x1) =>
+            same!(b is Op::Unary(y0, y1) => same_unary(*x0, *y0) && same_loc(x1, y1)),
         Op::Inc(x) => same!(b is Op::Inc(y) => same_loc(x, y)),
         Op::Dec(x) => same!(b is Op::Dec(y) => same_loc(x, y)),
         Op::Imul2(x0, x1) => same!(b is Op::Imul2(y0, y1) => *x0 == *y0 && same_loc(x1, y1)),
@@ -96,16 +129,17 @@ fn same_op(a: &Op, b: &Op) -> bool
             same!(b is Op::CmpXchg(y0, y1) => same_loc(x0, y0) && same_loc(x1, y1)),
         Op::Xadd(x0, x1) => same!(b is Op::Xadd(y0, y1) => same_loc(x0, y0) && same_loc(x1, y1)),
         Op::Shift(x0, x1, x2) =>
-            same!(b is Op::Shift(y0, y1, y2) => *x0 == *y0 && same_loc(x1, y1) && same_count(x2, y2)),
+            same!(b is Op::Shift(y0, y1, y2) => same_shift(*x0, *y0) && same_loc(x1, y1) && same_count(x2, y2)),
         Op::Bit(x0, x1, x2) =>
-            same!(b is Op::Bit(y0, y1, y2) => *x0 == *y0 && same_loc(x1, y1) && same_src(x2, y2)),
+            same!(b is Op::Bit(y0, y1, y2) => same_bit_test(*x0, *y0) && same_loc(x1, y1) && same_src(x2, y2)),
         Op::Bsf(x0, x1) => same!(b is Op::Bsf(y0, y1) => *x0 == *y0 && same_loc(x1, y1)),
         Op::Bsr(x0, x1) => same!(b is Op::Bsr(y0, y1) => *x0 == *y0 && same_loc(x1, y1)),
         Op::Bswap(x) => same!(b is Op::Bswap(y) => *x == *y),
-        Op::SetCc(x0, x1) => same!(b is Op::SetCc(y0, y1) => *x0 == *y0 && same_loc(x1, y1)),
+        Op::SetCc(x0, x1) =>
+            same!(b is Op::SetCc(y0, y1) => same_condition(*x0, *y0) && same_loc(x1, y1)),
         Op::CMov(x0, x1, x2) =>
-            same!(b is Op::CMov(y0, y1, y2) => *x0 == *y0 && *x1 == *y1 && same_loc(x2, y2)),
-        Op::Jcc(x0, x1) => same!(b is Op::Jcc(y0, y1) => *x0 == *y0 && *x1 == *y1),
+            same!(b is Op::CMov(y0, y1, y2) => same_condition(*x0, *y0) && *x1 == *y1 && same_loc(x2, y2)),
+        Op::Jcc(x0, x1) => same!(b is Op::Jcc(y0, y1) => same_condition(*x0, *y0) && *x1 == *y1),
         Op::Jmp(x) => same!(b is Op::Jmp(y) => *x == *y),
         Op::Call(x) => same!(b is Op::Call(y) => *x == *y),
         Op::JmpTo(x) => same!(b is Op::JmpTo(y) => same_loc(x, y)),

@@ -1,23 +1,22 @@
 -- What each instruction leaves.
-use Rattle.std.proofs.Common.{◌≡◌, ℕ, Bool, true, false, Option, Some, None, if◌then◌else◌, refl, sym, subst}
+use Rattle.std.proofs.Common.{◌≡◌, ℕ, Bool, true, false, Option, Some, None, Result, Ok, Err, List, refl, sym, subst}
 use Rattle.vm_law.specs.Memory.{Memory}
 use Rattle.vm_law.specs.declared.context.Ctx.{Ctx}
 use Rattle.vm_law.specs.declared.insn.Insn.{Insn}
+use Rattle.vm_law.specs.declared.insn.Mem.{Mem}
 use Rattle.vm_law.specs.declared.insn.Op.{Op}
 use Rattle.vm_law.specs.declared.insn.Op.TheVariants as op
-use Rattle.vm_bus.specs.declared.area.Area.{Area}
-use Rattle.x86_op.specs.declared.access.Way.{Way}
-use Rattle.x86_op.specs.declared.access.Way.TheVariants as way
 use Rattle.x86_op.specs.declared.access.Access.{Access}
-use Rattle.x86_op.specs.Table.{faults, matches_accumulator}
+use Rattle.x86_op.specs.Done.{Done}
+use Rattle.x86_op.specs.Table.{computed}
 use Rattle.x86_op.specs.Access.{access_of}
 use Rattle.x86_exec.specs.declared.effect.Effect.{Effect}
 use Rattle.x86_exec.specs.declared.effect.Effect.TheVariants as effect
-use Rattle.x86_exec.specs.declared.reached.Reached.{Reached}
-use Rattle.x86_exec.specs.declared.reached.Reached.TheVariants.{Window, Refused, InMemory}
-use Rattle.x86_exec.specs.Reached.{reached}
-use Rattle.x86_exec.specs.Shared.{Shared, kept, area_in, is_store, done_with, stored_where, compared_in, done_by, done_in, at_device, accessed, done_alone, with_access, loaded, iret, lidt, shared_op}
+use Rattle.x86_exec.specs.declared.reached.Place.{Place}
+use Rattle.x86_exec.specs.declared.reached.Place.TheVariants as place
+use Rattle.x86_exec.specs.Shared.{Shared, asks, stored_at, ended, stores, accessed, alone, with_access, iret, lidt, out, attempted, settled}
 use Rattle.x86_exec.specs.Kept.{Leaves, SharedLeaves}
+use Rattle.x86_exec.proofs.Chains.{accessed_ends, alone_ends, iret_ends, lidt_ends}
 
 abbrev pub Left : Ctx → Memory → Shared → Type 0
 Left c mem s = Leaves s.effect c s.ctx mem s.memory
@@ -29,89 +28,50 @@ left c after mem new e s h by_effect by_ctx by_memory =
     let second = subst (λ (x : Ctx). Leaves e c x mem s.memory) (sym by_ctx) first in
     subst (λ (x : Memory). Leaves e c after mem x) (sym by_memory) second
 
-chosen : (P : Shared → Type 0) (b : Bool) (x y : Shared) → P x → P y → P (if b then x else y)
-chosen P true x y p q = p
-chosen P false x y p q = q
+unchanged : (c : Ctx) (mem : Memory) (e : Effect) → Left c mem (asks e c mem)
+unchanged c mem effect.Done = tt
+unchanged c mem effect.Halt = refl
+unchanged c mem (effect.Trap vector error) = (refl, refl)
+unchanged c mem (effect.Stop why) = (refl, refl)
+unchanged c mem (effect.PortIn port width) = (refl, refl)
+unchanged c mem (effect.PortOut port width value) = refl
+unchanged c mem (effect.Load area) = (refl, refl)
+unchanged c mem (effect.Store area value) = refl
 
-kept_left : (c : Ctx) (mem : Memory) (e : Effect) → Left c mem (kept c mem e)
-kept_left c mem effect.Done = tt
-kept_left c mem effect.Halt = refl
-kept_left c mem (effect.Trap vector error) = (refl, refl)
-kept_left c mem (effect.Stop why) = (refl, refl)
-kept_left c mem (effect.PortIn port width) = (refl, refl)
-kept_left c mem (effect.PortOut port width value) = refl
-kept_left c mem (effect.Load area) = (refl, refl)
-kept_left c mem (effect.Store area value) = refl
+ended_left : (c : Ctx) (mem : Memory) (a : Access) (p : Place) (done : Done) (store : Bool) → Left c mem (ended mem a p done store)
+unfolding ended stored_at
+ended_left c mem a place.Memory done true = tt
+ended_left c mem a (place.Window x) done true = refl
+ended_left c mem a p done false = tt
 
-done_with_left : (c : Ctx) (insn : Insn) (len : ℕ) (mem : Memory) (a : Access) (m : ℕ) (store : Bool) → Left c mem (done_with c insn len mem a m store)
-unfolding done_with
-done_with_left c insn len mem a m store = tt
+accessed_left : (c : Ctx) (insn : Insn) (len : ℕ) (mem : Memory) (a : Access) → Left c mem (settled c mem (accessed c insn len mem a))
+accessed_left c insn len mem a =
+    accessed_ends c insn len mem a (Left c mem) (unchanged c mem) (λ p read is. ended_left c mem a p (computed c insn len read) (stores c insn read a.way))
 
-stored_where_left : (c : Ctx) (insn : Insn) (len : ℕ) (mem : Memory) (a : Access) (m : ℕ) (r : Reached) → Left c mem (stored_where c insn len mem a m r)
-unfolding stored_where
-stored_where_left c insn len mem a m (Refused e) = kept_left c mem e
-stored_where_left c insn len mem a m (Window x) = (refl, refl)
-stored_where_left c insn len mem a m InMemory = done_with_left c insn len mem a m true
+alone_left : (c : Ctx) (insn : Insn) (len : ℕ) (mem : Memory) → Left c mem (settled c mem (alone c insn len mem))
+alone_left c insn len mem = alone_ends c insn len mem (Left c mem) (unchanged c mem) tt
 
-compared_in_left : (c : Ctx) (insn : Insn) (len : ℕ) (mem : Memory) (a : Access) (m : ℕ) → Left c mem (compared_in c insn len mem a m)
-unfolding compared_in
-compared_in_left c insn len mem a m =
-    chosen (Left c mem) (matches_accumulator c insn m) _ _
-    (stored_where_left c insn len mem a m (reached true false (area_in mem a.at a.len)))
-    (done_with_left c insn len mem a m false)
-
-done_by_left : (c : Ctx) (insn : Insn) (len : ℕ) (mem : Memory) (a : Access) (m : ℕ) (k : Way) → Left c mem (done_by c insn len mem a m k)
-unfolding done_by
-done_by_left c insn len mem a m way.Compare = compared_in_left c insn len mem a m
-done_by_left c insn len mem a m way.Load = done_with_left c insn len mem a m (is_store way.Load)
-done_by_left c insn len mem a m way.Store = done_with_left c insn len mem a m (is_store way.Store)
-done_by_left c insn len mem a m way.Modify = done_with_left c insn len mem a m (is_store way.Modify)
-
-done_in_left : (c : Ctx) (insn : Insn) (len : ℕ) (mem : Memory) (a : Access) (m : ℕ) → Left c mem (done_in c insn len mem a m)
-unfolding done_in
-done_in_left c insn len mem a m = chosen (Left c mem) (faults c insn m) _ _ (refl, refl) (done_by_left c insn len mem a m a.way)
-
-at_device_left : (c : Ctx) (insn : Insn) (len : ℕ) (mem : Memory) (k : Way) (x : Area) → Left c mem (at_device c insn len mem k x)
-unfolding at_device
-at_device_left c insn len mem k x = chosen (Left c mem) (is_store k) _ _ refl (refl, refl)
-
-accessed_left : (c : Ctx) (insn : Insn) (len : ℕ) (mem : Memory) (a : Access) (r : Reached) → Left c mem (accessed c insn len mem a r)
-unfolding accessed
-accessed_left c insn len mem a (Refused e) = kept_left c mem e
-accessed_left c insn len mem a (Window x) = at_device_left c insn len mem a.way x
-accessed_left c insn len mem a InMemory = done_in_left c insn len mem a (loaded mem a)
-
-done_alone_left : (c : Ctx) (insn : Insn) (len : ℕ) (mem : Memory) → Left c mem (done_alone c insn len mem)
-unfolding done_alone
-done_alone_left c insn len mem = chosen (Left c mem) (faults c insn 0) _ _ (refl, refl) tt
-
-pub with_access_left : (c : Ctx) (insn : Insn) (len : ℕ) (mem : Memory) (x : Option Access) → Left c mem (with_access c insn len mem x)
+with_access_left : (c : Ctx) (insn : Insn) (len : ℕ) (mem : Memory) (x : Option Access) → Left c mem (settled c mem (with_access c insn len mem x))
 unfolding with_access
-with_access_left c insn len mem None = done_alone_left c insn len mem
-with_access_left c insn len mem (Some a) = accessed_left c insn len mem a _
+with_access_left c insn len mem None = alone_left c insn len mem
+with_access_left c insn len mem (Some a) = accessed_left c insn len mem a
 
-pub iret_left : (c : Ctx) (len : ℕ) (mem : Memory) (at : ℕ) (r : Reached) → Left c mem (iret c len mem at r)
-unfolding iret
-iret_left c len mem at (Refused e) = kept_left c mem e
-iret_left c len mem at (Window x) = (refl, refl)
-iret_left c len mem at InMemory = tt
+iret_left : (c : Ctx) (len : ℕ) (mem : Memory) → Left c mem (settled c mem (iret c len mem))
+iret_left c len mem = iret_ends c len mem (Left c mem) (unchanged c mem) (λ frame. tt)
 
-pub lidt_left : (c : Ctx) (len : ℕ) (mem : Memory) (at : ℕ) (r : Reached) → Left c mem (lidt c len mem at r)
-unfolding lidt
-lidt_left c len mem at (Refused e) = kept_left c mem e
-lidt_left c len mem at (Window x) = (refl, refl)
-lidt_left c len mem at InMemory = tt
+lidt_left : (c : Ctx) (len : ℕ) (mem : Memory) (a : Mem) → Left c mem (settled c mem (lidt c len mem a))
+lidt_left c len mem a = lidt_ends c len mem a (Left c mem) (unchanged c mem) (λ operand. tt)
 
-shared_op_left : (c : Ctx) (insn : Insn) (len : ℕ) (mem : Memory) (o : Op) → Left c mem (shared_op c insn len mem o)
-unfolding shared_op
-shared_op_left c insn len mem (op.In port) = (refl, refl)
-shared_op_left c insn len mem (op.Out port) = refl
-shared_op_left c insn len mem (op.Int v) = (refl, refl)
-shared_op_left c insn len mem op.Ud2 = (refl, refl)
-shared_op_left c insn len mem op.Hlt = refl
-shared_op_left c insn len mem op.Iret = iret_left c len mem _ _
-shared_op_left c insn len mem (op.Lidt a) = lidt_left c len mem _ _
-shared_op_left c insn len mem o = with_access_left c insn len mem (access_of c insn len)
+attempted_left : (c : Ctx) (insn : Insn) (len : ℕ) (mem : Memory) (o : Op) → Left c mem (settled c mem (attempted c insn len mem o))
+unfolding attempted out
+attempted_left c insn len mem (op.In port) = (refl, refl)
+attempted_left c insn len mem (op.Out port) = refl
+attempted_left c insn len mem (op.Int v) = (refl, refl)
+attempted_left c insn len mem op.Ud2 = (refl, refl)
+attempted_left c insn len mem op.Hlt = refl
+attempted_left c insn len mem op.Iret = iret_left c len mem
+attempted_left c insn len mem (op.Lidt a) = lidt_left c len mem a
+attempted_left c insn len mem o = with_access_left c insn len mem (access_of c insn len)
 
 pub shared_leaves : SharedLeaves
-shared_leaves c insn len mem = shared_op_left c insn len mem insn.op
+shared_leaves c insn len mem = attempted_left c insn len mem insn.op

@@ -1,5 +1,3 @@
-pub mod Reaches
+pub mod Chains
 pub mod Leaves
-pub mod Inside
-pub mod Bounds
-pub mod Keeps
+pub mod Stores

@@ -1,17 +1,13 @@
--- What no instruction changes, and what one leaves by what it asks.
-use Rattle.std.specs.Prelude.{◌≡◌, ℕ, ◌<◌, ◌^◌, length}
-use Rattle.vm_law.specs.Memory.{Memory, code_of}
+-- What an instruction leaves, by what it asks and by what it stored.
+use Rattle.std.specs.Prelude.{◌≡◌, ℕ, ◌+◌, ◌≤◌, ◌<◌, ◌^◌, List, length, Option, Some, None, Result, Ok, Err}
+use Rattle.vm_law.specs.Memory.{Memory, written, KeepsSize}
 use Rattle.vm_law.specs.declared.context.Ctx.{Ctx}
 use Rattle.vm_law.specs.declared.insn.Insn.{Insn}
 use Rattle.x86_exec.specs.declared.effect.Effect.{Effect}
 use Rattle.x86_exec.specs.declared.effect.Effect.TheVariants as effect
-use Rattle.x86_exec.specs.Shared.{shared}
-
--- the code part and how many bytes there are
-pub record KeepsCode (old new : Memory) : Type 0 where
-  pub code : new.code ≡ old.code
-  pub size : length new.bytes ≡ length old.bytes
-  pub part : code_of new ≡ code_of old
+use Rattle.x86_exec.specs.declared.effect.Stored.{Stored}
+use Rattle.x86_exec.specs.declared.effect.Performed.{Performed}
+use Rattle.x86_exec.specs.Shared.{Shared, shared}
 
 -- only what is done may have changed memory; what isn't done yet, or can't be, has changed nothing
 abbrev pub Leaves : Effect → Ctx → Ctx → Memory → Memory → Type 0
@@ -24,8 +20,29 @@ Leaves (effect.PortOut port width value) c after mem new = new ≡ mem
 Leaves (effect.Load area) c after mem new = (after ≡ c) × (new ≡ mem)
 Leaves (effect.Store area value) c after mem new = new ≡ mem
 
-abbrev pub SharedKeepsCode : Type 0
-SharedKeepsCode = (c : Ctx) (insn : Insn) (len : ℕ) (mem : Memory) → length mem.bytes < 2 ^ 64 → KeepsCode mem (shared c insn len mem).memory
+-- as many bytes as were stored, and inside memory, are others
+pub record IsStored (mem new : Memory) (s : Stored) : Type 0 where
+  pub piece : List ℕ
+  pub long : length piece ≡ s.len
+  pub inside : s.at + s.len ≤ length mem.bytes
+  pub there : new ≡ written mem s.at piece
+
+-- where nothing was stored memory stays
+abbrev pub Stores : Option Stored → Memory → Memory → Type 0
+Stores None mem new = new ≡ mem
+Stores (Some s) mem new = IsStored mem new s
+
+-- what an attempt comes to
+abbrev pub outcome : Result Performed Effect → Ctx → Memory → Result Shared Effect
+outcome (Ok p) c mem = Ok (record { effect = p.effect; ctx = c; memory = mem; stored = p.stored })
+outcome (Err e) c mem = Err e
 
 abbrev pub SharedLeaves : Type 0
 SharedLeaves = (c : Ctx) (insn : Insn) (len : ℕ) (mem : Memory) → Leaves (shared c insn len mem).effect c (shared c insn len mem).ctx mem (shared c insn len mem).memory
+
+abbrev pub SharedStores : Type 0
+SharedStores = (c : Ctx) (insn : Insn) (len : ℕ) (mem : Memory) → length mem.bytes < 2 ^ 64 → Stores (shared c insn len mem).stored mem (shared c insn len mem).memory
+
+-- how many bytes there are and how many of them are code stays
+abbrev pub SharedKeepsSize : Type 0
+SharedKeepsSize = (c : Ctx) (insn : Insn) (len : ℕ) (mem : Memory) → length mem.bytes < 2 ^ 64 → KeepsSize mem (shared c insn len mem).memory

@@ -1,3 +1,4 @@
+pub mod Steps
 pub mod Reached
 pub mod Shared
 pub mod Kept

@@ -1,17 +1,19 @@
-//! Instructions with an operand in memory, or on the stack.
-ghost use Rattle.std.specs.Prelude.{◌≡◌, ◌<◌, ◌≤◌, ◌+◌, false, true, length, IsTrue};
-ghost use Rattle.x86_op.specs.Access.{IsLength};
-ghost use Rattle.x86_exec.specs.Kept.{KeepsCode};
-ghost use Rattle.x86_exec.specs.Reached.{IsInMemory};
+//! Instructions with an operand in memory, or on the stack, and those on registers and flags alone.
+ghost use Rattle.std.specs.Prelude.{◌≡◌, ◌≤◌, ◌+◌, OnErr, IfOk};
+ghost use Rattle.vm_law.specs.declared.context.Ctx.{Ctx};
+ghost use Rattle.x86_op.specs.Access.{IsLength, access_of};
+ghost use Rattle.x86_op.specs.Table.{computed};
+ghost use Rattle.x86_exec.specs.Kept.{outcome, Stores};
+ghost use Rattle.x86_exec.specs.Reached.{IsThere};
 ghost use Rattle.x86_exec.specs.Shared as spec;
 
-use crate::effect::Effect;
+use crate::effect::{Effect, Performed, Stored};
 use crate::number::{load, store};
-use crate::reached::{Reached, reach};
-use vm_bus::Area;
-use vm_law::{Bytes, Ctx, Insn, Op, Stop, Width};
+use crate::reached::{Place, reach};
+use vm_law::{Bytes, Ctx, Insn, Op, Width};
 use x86_op::{Access, Way, access_of, compute, faults, matches_accumulator};
 
+#[inline(always)]
 #[tactic(auto, unfolding(crate::specs::Shared::is_plain_op))]
 fn is_plain(insn: &Insn) -> bool
     ensures { result ≡ spec.is_plain insn.now }
@@ -22,178 +24,139 @@ fn is_plain(insn: &Insn) -> bool
     }
 }
 
-#[tactic(auto, unfolding(crate::specs::Shared::is_store))]
-fn is_store(way: Way) -> bool
-    ensures { result ≡ spec.is_store way }
+#[tactic(auto, unfolding(crate::specs::Shared::number_at))]
+fn number_at<B: Bytes>(bytes: &B, access: &Access, place: Place) -> Result<u64, Effect>
+    requires length { IsLength access.now.len }
+    requires there { IsThere (B.memory bytes.now) access.now.at access.now.len place }
+    ensures { result ≡ spec.number_at (B.memory bytes.now) access.now place }
 {
-    match way {
-        Way::Load | Way::Compare => false,
-        Way::Store | Way::Modify => true,
+    match place {
+        Place::Memory => Ok(load(bytes, access.at, access.len)),
+        Place::Window(area) => Err(Effect::Load { area }),
     }
 }
 
-#[tactic(auto, unfolding(crate::specs::Shared::loaded_by))]
-fn loaded<B: Bytes>(bytes: &B, access: &Access) -> u64
+/// What is loaded; nothing for a mere store.
+#[tactic(auto, unfolding(crate::specs::Shared::loaded))]
+fn loaded<B: Bytes>(bytes: &B, access: &Access, place: Place) -> Result<u64, Effect>
     requires length { IsLength access.now.len }
-    requires inside { access.now.at + access.now.len ≤ length (B.memory bytes.now).bytes }
-    ensures { result ≡ spec.loaded (B.memory bytes.now) access.now }
+    requires there { IsThere (B.memory bytes.now) access.now.at access.now.len place }
+    ensures { result ≡ spec.loaded (B.memory bytes.now) access.now place access.now.way }
 {
     match access.way {
-        Way::Store => 0,
-        Way::Load | Way::Modify | Way::Compare => load(bytes, access.at, access.len),
+        Way::Store => Ok(0),
+        Way::Load | Way::Modify | Way::Compare => number_at(bytes, access, place),
     }
 }
 
-/// What the instruction computes with `m`, with or without its store.
-#[tactic(auto, unfolding(crate::specs::Shared::done_with))]
-fn finish<B: Bytes>(
-    ctx: &mut Ctx,
-    insn: &Insn,
-    len: u8,
-    bytes: &mut B,
-    access: &Access,
-    m: u64,
-    stores: bool,
-) -> Effect
-    requires length { IsLength access.now.len }
-    requires safe { IsInMemory (B.memory bytes.old) stores access.now.at access.now.len }
-    ensures effect { result ≡ (spec.done_with ctx.old insn.now len (B.memory bytes.old) access.now m stores).effect }
-    ensures ctx { ctx.new ≡ (spec.done_with ctx.old insn.now len (B.memory bytes.old) access.now m stores).ctx }
-    ensures memory { B.memory bytes.new ≡ (spec.done_with ctx.old insn.now len (B.memory bytes.old) access.now m stores).memory }
-    ensures code { KeepsCode (B.memory bytes.old) (B.memory bytes.new) }
+/// A division that can't be done is #DE.
+#[inline(always)]
+#[tactic(auto, unfolding(crate::specs::Shared::divides))]
+fn divides(ctx: &Ctx, insn: &Insn, read: u64) -> Result<(), Effect>
+    ensures { result ≡ spec.divides ctx.now insn.now read }
 {
-    let stored = compute(ctx, insn, len, m);
-    if stores {
-        store(bytes, access.at, access.len, stored);
-    }
-    Effect::Done
-}
-
-/// A CMPXCHG, which is checked as a store where it stores.
-#[tactic(auto, unfolding(crate::specs::Shared::compared_in, crate::specs::Shared::stored_where))]
-fn compare<B: Bytes>(
-    ctx: &mut Ctx,
-    insn: &Insn,
-    len: u8,
-    bytes: &mut B,
-    access: &Access,
-    m: u64,
-) -> Effect
-    requires length { IsLength access.now.len }
-    requires safe { IsInMemory (B.memory bytes.old) false access.now.at access.now.len }
-    ensures effect { result ≡ (spec.compared_in ctx.old insn.now len (B.memory bytes.old) access.now m).effect }
-    ensures ctx { ctx.new ≡ (spec.compared_in ctx.old insn.now len (B.memory bytes.old) access.now m).ctx }
-    ensures memory { B.memory bytes.new ≡ (spec.compared_in ctx.old insn.now len (B.memory bytes.old) access.now m).memory }
-    ensures code { KeepsCode (B.memory bytes.old) (B.memory bytes.new) }
-{
-    if !matches_accumulator(ctx, insn, m) {
-        return finish(ctx, insn, len, bytes, access, m, false);
-    }
-    match reach(bytes, true, false, access.at, access.len) {
-        Reached::Refused(effect) => effect,
-        Reached::Window(_) => Effect::Stop(Stop::Device),
-        Reached::InMemory => finish(ctx, insn, len, bytes, access, m, true),
-    }
-}
-
-/// At memory.
-#[tactic(auto, unfolding(crate::specs::Shared::done_in, crate::specs::Shared::done_by, crate::specs::Shared::is_store))]
-fn in_memory<B: Bytes>(
-    ctx: &mut Ctx,
-    insn: &Insn,
-    len: u8,
-    bytes: &mut B,
-    access: &Access,
-) -> Effect
-    requires length { IsLength access.now.len }
-    requires safe { IsInMemory (B.memory bytes.old) (spec.is_store access.now.way) access.now.at access.now.len }
-    ensures effect { let mem = B.memory bytes.old in result ≡ (spec.done_in ctx.old insn.now len mem access.now (spec.loaded mem access.now)).effect }
-    ensures ctx { let mem = B.memory bytes.old in ctx.new ≡ (spec.done_in ctx.old insn.now len mem access.now (spec.loaded mem access.now)).ctx }
-    ensures memory { let mem = B.memory bytes.old in B.memory bytes.new ≡ (spec.done_in ctx.old insn.now len mem access.now (spec.loaded mem access.now)).memory }
-    ensures code { KeepsCode (B.memory bytes.old) (B.memory bytes.new) }
-{
-    let m = loaded(bytes, access);
-    if faults(ctx, insn, m) {
-        return Effect::Trap {
+    if faults(ctx, insn, read) {
+        return Err(Effect::Trap {
             vector: 0,
             error: None,
-        };
+        });
     }
-    match access.way {
-        Way::Compare => compare(ctx, insn, len, bytes, access, m),
-        Way::Load => finish(ctx, insn, len, bytes, access, m, false),
-        Way::Store | Way::Modify => finish(ctx, insn, len, bytes, access, m, true),
+    Ok(())
+}
+
+/// Whether there is a store: CMPXCHG stores where it finds what the accumulator holds.
+#[inline(always)]
+#[tactic(auto, unfolding(crate::specs::Shared::stores))]
+fn stores(ctx: &Ctx, insn: &Insn, read: u64, way: Way) -> bool
+    ensures { result ≡ spec.stores ctx.now insn.now read way }
+{
+    match way {
+        Way::Load => false,
+        Way::Store | Way::Modify => true,
+        Way::Compare => matches_accumulator(ctx, insn, read),
     }
 }
 
-/// At a device: what is stored goes there, what is loaded is asked for.
-#[tactic(auto, unfolding(crate::specs::Shared::at_device))]
-fn at_device<B: Bytes>(
+/// Stores a number in memory or at a device.
+#[tactic(auto, unfolding(crate::specs::Shared::stored_at))]
+fn store_at<B: Bytes>(bytes: &mut B, access: &Access, place: Place, number: u64) -> Performed
+    requires length { IsLength access.now.len }
+    requires there { IsThere (B.memory bytes.old) access.now.at access.now.len place }
+    requires room { 2 ≤ B.spare bytes.old }
+    ensures shared { (c : Ctx) → record { effect = result.effect; ctx = c; memory = B.memory bytes.new; stored = result.stored } ≡ spec.stored_at (B.memory bytes.old) access.now (record { ctx = c; stored = number }) place }
+    ensures stores { Stores result.stored (B.memory bytes.old) (B.memory bytes.new) }
+    ensures room { B.spare bytes.old ≤ B.spare bytes.new + 2 }
+{
+    match place {
+        Place::Memory => {
+            store(bytes, access.at, access.len, number);
+            Performed {
+                effect: Effect::Done,
+                stored: Some(Stored {
+                    at: access.at,
+                    len: access.len,
+                }),
+            }
+        }
+        Place::Window(area) => Performed::asking(Effect::Store {
+            area,
+            value: (number & 0xFFFF_FFFF) as u32,
+        }),
+    }
+}
+
+#[tactic(auto, unfolding(crate::specs::Shared::accessed, crate::specs::Shared::ended))]
+fn accessed<B: Bytes>(
     ctx: &mut Ctx,
     insn: &Insn,
     len: u8,
-    bytes: &B,
-    way: Way,
-    area: Area,
-) -> Effect
-    ensures effect { result ≡ (spec.at_device ctx.old insn.now len (B.memory bytes.now) way area).effect }
-    ensures ctx { ctx.new ≡ (spec.at_device ctx.old insn.now len (B.memory bytes.now) way area).ctx }
-    ensures memory { (spec.at_device ctx.old insn.now len (B.memory bytes.now) way area).memory ≡ B.memory bytes.now }
-{
-    if is_store(way) {
-        let stored = compute(ctx, insn, len, 0);
-        let value = (stored & 0xFFFF_FFFF) as u32;
-        Effect::Store { area, value }
-    } else {
-        Effect::Load { area }
-    }
-}
-
-#[tactic(auto, unfolding(crate::specs::Shared::accessed))]
-fn accessed<B: Bytes>(ctx: &mut Ctx, insn: &Insn, len: u8, bytes: &mut B, access: &Access) -> Effect
+    bytes: &mut B,
+    access: &Access,
+) -> Result<Performed, Effect>
     requires length { IsLength access.now.len }
-    ensures effect { result ≡ (spec.accessed_at ctx.old insn.now len (B.memory bytes.old) access.now).effect }
-    ensures ctx { ctx.new ≡ (spec.accessed_at ctx.old insn.now len (B.memory bytes.old) access.now).ctx }
-    ensures memory { B.memory bytes.new ≡ (spec.accessed_at ctx.old insn.now len (B.memory bytes.old) access.now).memory }
-    ensures code { KeepsCode (B.memory bytes.old) (B.memory bytes.new) }
+    requires room { 2 ≤ B.spare bytes.old }
+    ensures outcome { outcome result ctx.new (B.memory bytes.new) ≡ spec.accessed ctx.old insn.now len (B.memory bytes.old) access.now }
+    ensures refused { OnErr result ((ctx.new ≡ ctx.old) × (bytes.new ≡ bytes.old)) }
+    ensures stores { IfOk result (λ p. Stores p.stored (B.memory bytes.old) (B.memory bytes.new)) }
+    ensures room { B.spare bytes.old ≤ B.spare bytes.new + 2 }
 {
-    match reach(
-        bytes,
-        is_store(access.way),
-        is_plain(insn),
-        access.at,
-        access.len,
-    ) {
-        Reached::Refused(effect) => effect,
-        Reached::Window(area) => at_device(ctx, insn, len, bytes, access.way, area),
-        Reached::InMemory => in_memory(ctx, insn, len, bytes, access),
+    let place = reach(bytes, is_plain(insn), access.at, access.len)?;
+    let read = loaded(bytes, access, place)?;
+    divides(ctx, insn, read)?;
+    let stores = stores(ctx, insn, read, access.way);
+    let number = compute(ctx, insn, len, read);
+    if stores {
+        Ok(store_at(bytes, access, place, number))
+    } else {
+        Ok(Performed::asking(Effect::Done))
     }
 }
 
 /// On registers and flags alone.
-#[tactic(auto, unfolding(crate::specs::Shared::done_alone))]
-fn alone<B: Bytes>(ctx: &mut Ctx, insn: &Insn, len: u8, bytes: &B) -> Effect
-    ensures effect { result ≡ (spec.done_alone ctx.old insn.now len (B.memory bytes.now)).effect }
-    ensures ctx { ctx.new ≡ (spec.done_alone ctx.old insn.now len (B.memory bytes.now)).ctx }
-    ensures memory { (spec.done_alone ctx.old insn.now len (B.memory bytes.now)).memory ≡ B.memory bytes.now }
+#[tactic(auto, unfolding(crate::specs::Shared::alone))]
+fn alone<B: Bytes>(ctx: &mut Ctx, insn: &Insn, len: u8, bytes: &B) -> Result<Performed, Effect>
+    ensures outcome { outcome result ctx.new (B.memory bytes.now) ≡ spec.alone ctx.old insn.now len (B.memory bytes.now) }
+    ensures refused { OnErr result (ctx.new ≡ ctx.old) }
+    ensures stores { IfOk result (λ p. Stores p.stored (B.memory bytes.now) (B.memory bytes.now)) }
 {
-    if faults(ctx, insn, 0) {
-        return Effect::Trap {
-            vector: 0,
-            error: None,
-        };
-    }
+    divides(ctx, insn, 0)?;
     compute(ctx, insn, len, 0);
-    Effect::Done
+    Ok(Performed::asking(Effect::Done))
 }
 
 /// An instruction with the access that it makes, if any.
 #[tactic(auto, unfolding(crate::specs::Shared::with_access))]
-pub(crate) fn with_access<B: Bytes>(ctx: &mut Ctx, insn: &Insn, len: u8, bytes: &mut B) -> Effect
-    ensures effect { result ≡ (spec.with_own_access ctx.old insn.now len (B.memory bytes.old)).effect }
-    ensures ctx { ctx.new ≡ (spec.with_own_access ctx.old insn.now len (B.memory bytes.old)).ctx }
-    ensures memory { B.memory bytes.new ≡ (spec.with_own_access ctx.old insn.now len (B.memory bytes.old)).memory }
-    ensures code { KeepsCode (B.memory bytes.old) (B.memory bytes.new) }
+pub(crate) fn with_access<B: Bytes>(
+    ctx: &mut Ctx,
+    insn: &Insn,
+    len: u8,
+    bytes: &mut B,
+) -> Result<Performed, Effect>
+    requires room { 2 ≤ B.spare bytes.old }
+    ensures outcome { outcome result ctx.new (B.memory bytes.new) ≡ spec.with_access ctx.old insn.now len (B.memory bytes.old) (access_of ctx.old insn.now len) }
+    ensures refused { OnErr result ((ctx.new ≡ ctx.old) × (bytes.new ≡ bytes.old)) }
+    ensures stores { IfOk result (λ p. Stores p.stored (B.memory bytes.old) (B.memory bytes.new)) }
+    ensures room { B.spare bytes.old ≤ B.spare bytes.new + 2 }
 {
     match access_of(ctx, insn, len) {
         None => alone(ctx, insn, len, bytes),

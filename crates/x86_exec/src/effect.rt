@@ -1,4 +1,6 @@
-//! What an instruction asks of the machine around its vCPU.
+//! What an instruction asks of the machine around its vCPU, and what it stored.
+ghost use Rattle.std.specs.Prelude.{◌≡◌, None};
+
 use vm_bus::Area;
 use vm_law::{Stop, Width};
 
@@ -23,4 +25,30 @@ pub enum Effect {
     Load { area: Area },
     /// A number of 32 bits for a device's window: it is done otherwise.
     Store { area: Area, value: u32 },
+}
+
+/// The bytes of memory that an instruction stored: `len` of them, 1 to 8, from an address on.
+#[derive(Clone, Copy, Debug, PartialEq, Eq)]
+pub struct Stored {
+    pub at: u64,
+    pub len: u8,
+}
+
+/// What an instruction asks, and what it stored, if anything.
+#[derive(Clone, Copy, Debug, PartialEq, Eq)]
+pub struct Performed {
+    pub effect: Effect,
+    pub stored: Option<Stored>,
+}
+
+impl Performed {
+    /// Nothing was stored.
+    pub(crate) fn asking(effect: Effect) -> Performed
+        ensures { result ≡ record { effect = effect; stored = None } }
+    {
+        Performed {
+            effect,
+            stored: None,
+        }
+    }
 }

@@ -2,13 +2,12 @@
 ghost use Rattle.std.specs.Prelude.{◌≡◌, ◌<◌, ◌≤◌, ◌+◌, ◌*◌, ◌^◌, length};
 ghost use Rattle.byteorder.specs.Endian.{little_number, little_bytes};
 ghost use Rattle.x86_op.specs.Access.{IsLength};
-ghost use Rattle.x86_exec.specs.Kept.{KeepsCode};
 ghost use Rattle.vm_law.specs.Memory.{read_of, written};
 
 use byteorder::{ByteOrder, LittleEndian};
 use vm_law::Bytes;
 
-pub(crate) fn load_u16<B: Bytes>(bytes: &B, at: u64) -> u16
+fn load_u16<B: Bytes>(bytes: &B, at: u64) -> u16
     requires { at + 2 ≤ length (B.memory bytes.now).bytes }
     ensures { result ≡ little_number 2 (read_of (B.memory bytes.now) at 2) }
 {
@@ -26,7 +25,7 @@ fn load_u32<B: Bytes>(bytes: &B, at: u64) -> u32
     LittleEndian::read_u32(&piece)
 }
 
-pub(crate) fn load_u64<B: Bytes>(bytes: &B, at: u64) -> u64
+fn load_u64<B: Bytes>(bytes: &B, at: u64) -> u64
     requires { at + 8 ≤ length (B.memory bytes.now).bytes }
     ensures { result ≡ little_number 8 (read_of (B.memory bytes.now) at 8) }
 {
@@ -62,9 +61,9 @@ pub(crate) fn load<B: Bytes>(bytes: &B, at: u64, len: u8) -> u64
 pub(crate) fn store<B: Bytes>(bytes: &mut B, at: u64, len: u8, number: u64)
     requires length { IsLength len }
     requires inside { at + len ≤ length (B.memory bytes.old).bytes }
-    requires data { (B.memory bytes.old).code ≤ at }
+    requires room { 2 ≤ B.spare bytes.old }
     ensures memory { B.memory bytes.new ≡ written (B.memory bytes.old) at (little_bytes len number) }
-    ensures code { KeepsCode (B.memory bytes.old) (B.memory bytes.new) }
+    ensures room { B.spare bytes.old ≤ B.spare bytes.new + 2 }
 {
     let piece = number.to_le_bytes();
     match len {

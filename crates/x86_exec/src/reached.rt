@@ -1,60 +1,72 @@
-//! What stands at an access's address, and what it may do there.
-ghost use Rattle.std.specs.Prelude.{◌≡◌, ◌<◌, ◌≤◌, IsTrue};
+//! Where an access goes, or why it can't be made.
+ghost use Rattle.std.specs.Prelude.{◌≡◌, ◌<◌, ◌≤◌, ◌+◌, length, IfOk};
+ghost use Rattle.vm_bus.specs.Area.{area_in};
 ghost use Rattle.x86_exec.specs.Reached as spec;
-ghost use Rattle.x86_exec.specs.Shared.{area_in};
 
 use crate::effect::Effect;
 use vm_bus::{Area, area_at};
 use vm_law::{Bytes, Stop};
 
-/// What an access reaches.
+/// Where an access goes.
 #[derive(Clone, Copy, Debug, PartialEq, Eq)]
-pub(crate) enum Reached {
-    /// Memory that allows it.
-    InMemory,
-    /// A device's window, which allows it.
+pub(crate) enum Place {
+    Memory,
+    /// A device's window.
     Window(Area),
-    /// Nothing that allows it.
-    Refused(Effect),
 }
 
 #[tactic(auto, unfolding(crate::specs::Reached::windowed))]
-fn windowed(plain: bool, area: Area, offset: u32) -> Reached
+fn windowed(plain: bool, area: Area, offset: u32) -> Result<Place, Effect>
     ensures { result ≡ spec.windowed plain area offset }
 {
     if plain && offset.is_multiple_of(4) {
-        Reached::Window(area)
+        Ok(Place::Window(area))
     } else {
-        Reached::Refused(Effect::Stop(Stop::Device))
+        Err(Effect::Stop(Stop::Device))
     }
 }
 
 #[tactic(auto, unfolding(crate::specs::Reached::reached))]
-fn judged(store: bool, plain: bool, area: Area) -> Reached
-    ensures { result ≡ spec.reached store plain area }
+fn judged(plain: bool, area: Area) -> Result<Place, Effect>
+    ensures { result ≡ spec.reached plain area }
 {
     match area {
-        Area::Noncanonical => Reached::Refused(Effect::Trap {
+        Area::Noncanonical => Err(Effect::Trap {
             vector: 13,
             error: Some(0),
         }),
         Area::Lapic(offset) | Area::Ioapic(offset) | Area::Disk(_, offset) => windowed(
             plain, area, offset,
         ),
-        Area::Split => Reached::Refused(Effect::Stop(Stop::Device)),
-        Area::Nothing => Reached::Refused(Effect::Stop(Stop::Memory)),
-        Area::Code if store => Reached::Refused(Effect::Stop(Stop::CodeWrite)),
-        Area::Code | Area::Ram => Reached::InMemory,
+        Area::Split => Err(Effect::Stop(Stop::Device)),
+        Area::Nothing => Err(Effect::Stop(Stop::Memory)),
+        Area::Code | Area::Ram => Ok(Place::Memory),
     }
 }
 
-/// What an access to `len` bytes reaches. `store` is whether it is one, and `plain` whether a MOV of 32 bits makes it.
-#[tactic(auto, unfolding(crate::specs::Shared::area_in))]
-pub(crate) fn reach<B: Bytes>(bytes: &B, store: bool, plain: bool, at: u64, len: u8) -> Reached
+/// Where an access to `len` bytes goes. `plain` is whether a MOV of 32 bits makes it.
+pub(crate) fn reach<B: Bytes>(bytes: &B, plain: bool, at: u64, len: u8) -> Result<Place, Effect>
     requires { 0 < len }
-    ensures reached { result ≡ spec.reached store plain (area_in (B.memory bytes.now) at len) }
-    ensures safe { spec.IsSafe (B.memory bytes.now) store at len result }
+    ensures reached { result ≡ spec.reached plain (area_in (B.memory bytes.now) at len) }
+    ensures there { IfOk result (λ place. spec.IsThere (B.memory bytes.now) at len place) }
 {
     let area = area_at(at, u64::from(len), bytes.code(), bytes.size());
-    judged(store, plain, area)
+    judged(plain, area)
+}
+
+/// Reads a range of some bytes that is all in memory, and in no window.
+#[tactic(auto, unfolding(crate::specs::Reached::bytes_at))]
+pub(crate) fn read_at<B: Bytes, const N: usize>(bytes: &B, at: u64) -> Result<[u8; N], Effect>
+    requires some { 0 < N }
+    requires short { N < 256 }
+    ensures { result ≡ spec.bytes_at (B.memory bytes.now) at N }
+{
+    match reach(bytes, false, at, N as u8)? {
+        Place::Memory => {
+            let mut piece = [0; N];
+            bytes.read(at, &mut piece);
+            Ok(piece)
+        }
+        Place::Window(_) => Err(Effect::Stop(Stop::Device)),
+    }
 }

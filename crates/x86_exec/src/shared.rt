@@ -1,57 +1,96 @@
 //! The instructions, and their completion.
-ghost use Rattle.std.specs.Prelude.{◌≡◌, ◌%◌};
+ghost use Rattle.std.specs.Prelude.{◌≡◌, ◌%◌, ◌≤◌, ◌+◌, OnErr, IfOk};
+ghost use Rattle.vm_law.specs.Memory.{KeepsSize};
 ghost use Rattle.x86_alu.specs.Operand.{span};
-ghost use Rattle.x86_exec.specs.Kept.{KeepsCode, Leaves};
+ghost use Rattle.x86_exec.specs.Kept.{Leaves, Stores, outcome};
 ghost use Rattle.x86_exec.specs.Shared as spec;
 
 use crate::access::with_access;
-use crate::effect::Effect;
+use crate::effect::{Effect, Performed};
 use crate::system::{iret, lidt, out, port_of};
 use vm_law::{Bytes, Ctx, Insn, Loc, Op, Width};
 use x86_op::{compute, pass, set_value};
 
-/// Runs an instruction of `len` bytes. `ctx` is the context before it.
-///
-/// An access is judged in this order: a byte at an address that isn't canonical is #GP with error code 0; a byte in a
-/// device's window is `Stop::Device`, but for a MOV of 32 bits at a multiple of 4, which becomes a `Load` or a `Store`
-/// of the machine; a byte outside memory is `Stop::Memory`; and a store to the code is `Stop::CodeWrite`. An instruction
-/// that loads and stores is judged as a store, CMPXCHG where it stores. A division that can't be done is #DE after its
-/// access.
-///
-/// Where memory has changed the instruction is done. The context is as before at `Trap`, `Stop`, `PortIn` and `Load`,
-/// and behind the instruction else. The one who delivers a `Trap` of INT lets it return behind the instruction.
-///
-/// Source: Intel SDM volume 2, the pages of the instructions, and volume 3, section 6.15 (#DE, #UD, #GP).
-#[tactic(auto, unfolding(crate::specs::Shared::shared_op))]
-pub fn run_shared<B: Bytes>(ctx: &mut Ctx, insn: &Insn, len: u8, bytes: &mut B) -> Effect
-    ensures effect { result ≡ (spec.shared ctx.old insn.now len (B.memory bytes.old)).effect }
-    ensures ctx { ctx.new ≡ (spec.shared ctx.old insn.now len (B.memory bytes.old)).ctx }
-    ensures memory { B.memory bytes.new ≡ (spec.shared ctx.old insn.now len (B.memory bytes.old)).memory }
-    ensures code { KeepsCode (B.memory bytes.old) (B.memory bytes.new) }
-    ensures leaves { Leaves result ctx.old ctx.new (B.memory bytes.old) (B.memory bytes.new) }
+#[tactic(auto, unfolding(crate::specs::Shared::attempted))]
+fn attempt<B: Bytes>(
+    ctx: &mut Ctx,
+    insn: &Insn,
+    len: u8,
+    bytes: &mut B,
+) -> Result<Performed, Effect>
+    requires room { 2 ≤ B.spare bytes.old }
+    ensures outcome { outcome result ctx.new (B.memory bytes.new) ≡ spec.attempted ctx.old insn.now len (B.memory bytes.old) insn.now.op }
+    ensures refused { OnErr result ((ctx.new ≡ ctx.old) × (bytes.new ≡ bytes.old)) }
+    ensures stores { IfOk result (λ p. Stores p.stored (B.memory bytes.old) (B.memory bytes.new)) }
+    ensures room { B.spare bytes.old ≤ B.spare bytes.new + 2 }
 {
     match &insn.op {
-        Op::In(port) => Effect::PortIn {
+        Op::In(port) => Err(Effect::PortIn {
             port: port_of(ctx, *port),
             width: insn.width,
-        },
-        Op::Out(port) => out(ctx, len, insn.width, *port),
-        Op::Int(vector) => Effect::Trap {
+        }),
+        Op::Out(port) => Ok(out(ctx, len, insn.width, *port)),
+        Op::Int(vector) => Err(Effect::Trap {
             vector: *vector,
             error: None,
-        },
-        Op::Ud2 => Effect::Trap {
+        }),
+        Op::Ud2 => Err(Effect::Trap {
             vector: 6,
             error: None,
-        },
+        }),
         Op::Hlt => {
             pass(ctx, len);
-            Effect::Halt
+            Ok(Performed::asking(Effect::Halt))
         }
         Op::Iret => iret(ctx, len, bytes),
         Op::Lidt(operand) => lidt(ctx, len, bytes, operand),
         _ => with_access(ctx, insn, len, bytes),
     }
+}
+
+/// Runs an instruction of `len` bytes, and says which bytes of memory it stored. `ctx` is the context before it.
+///
+/// An access is judged in this order: a byte at an address that isn't canonical is #GP with error code 0; a byte in a
+/// device's window is `Stop::Device`, but for a MOV of 32 bits at a multiple of 4, which becomes a `Load` or a `Store`
+/// of the machine; and a byte outside memory is `Stop::Memory`. A store may go to the code. A division that can't be
+/// done is #DE after its load, and CMPXCHG stores where it finds what the accumulator holds.
+///
+/// Where memory has changed the instruction is done. The context is as before at `Trap`, `Stop`, `PortIn` and `Load`,
+/// and behind the instruction else. The one who delivers a `Trap` of INT lets it return behind the instruction.
+///
+/// There is to be room for two pages of memory; as much is taken at most.
+///
+/// Source: Intel SDM volume 2, the pages of the instructions, and volume 3, section 6.15 (#DE, #UD, #GP).
+pub fn perform<B: Bytes>(ctx: &mut Ctx, insn: &Insn, len: u8, bytes: &mut B) -> Performed
+    requires room { 2 ≤ B.spare bytes.old }
+    ensures effect { result.effect ≡ (spec.shared ctx.old insn.now len (B.memory bytes.old)).effect }
+    ensures stored { result.stored ≡ (spec.shared ctx.old insn.now len (B.memory bytes.old)).stored }
+    ensures ctx { ctx.new ≡ (spec.shared ctx.old insn.now len (B.memory bytes.old)).ctx }
+    ensures memory { B.memory bytes.new ≡ (spec.shared ctx.old insn.now len (B.memory bytes.old)).memory }
+    ensures leaves { Leaves result.effect ctx.old ctx.new (B.memory bytes.old) (B.memory bytes.new) }
+    ensures stores { Stores result.stored (B.memory bytes.old) (B.memory bytes.new) }
+    ensures size { KeepsSize (B.memory bytes.old) (B.memory bytes.new) }
+    ensures room { B.spare bytes.old ≤ B.spare bytes.new + 2 }
+{
+    match attempt(ctx, insn, len, bytes) {
+        Ok(performed) => performed,
+        Err(effect) => Performed::asking(effect),
+    }
+}
+
+/// Runs an instruction of `len` bytes, as [`perform`] does. `ctx` is the context before it.
+///
+/// Source: Intel SDM volume 2, the pages of the instructions, and volume 3, section 6.15 (#DE, #UD, #GP).
+pub fn run_shared<B: Bytes>(ctx: &mut Ctx, insn: &Insn, len: u8, bytes: &mut B) -> Effect
+    requires room { 2 ≤ B.spare bytes.old }
+    ensures effect { result ≡ (spec.shared ctx.old insn.now len (B.memory bytes.old)).effect }
+    ensures ctx { ctx.new ≡ (spec.shared ctx.old insn.now len (B.memory bytes.old)).ctx }
+    ensures memory { B.memory bytes.new ≡ (spec.shared ctx.old insn.now len (B.memory bytes.old)).memory }
+    ensures leaves { Leaves result ctx.old ctx.new (B.memory bytes.old) (B.memory bytes.new) }
+    ensures size { KeepsSize (B.memory bytes.old) (B.memory bytes.new) }
+    ensures room { B.spare bytes.old ≤ B.spare bytes.new + 2 }
+{
+    perform(ctx, insn, len, bytes).effect
 }
 
 /// The lowest bits of what a port answered.

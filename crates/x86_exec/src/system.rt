@@ -1,12 +1,14 @@
 //! IRETQ, LIDT and the ports.
-ghost use Rattle.std.specs.Prelude.{◌≡◌, ◌<◌, ◌≤◌, ◌+◌, ◌^◌, length};
+ghost use Rattle.std.specs.Prelude.{◌≡◌, OnErr, IfOk, drop};
+ghost use Rattle.byteorder.specs.Endian.{little_number};
+ghost use Rattle.vm_law.specs.Memory.{Memory};
+ghost use Rattle.x86_exec.specs.Kept.{outcome, Stores};
 ghost use Rattle.x86_exec.specs.Shared as spec;
-ghost use Rattle.x86_op.specs.Operand.{passed};
 
-use crate::effect::Effect;
-use crate::number::{load_u16, load_u64};
-use crate::reached::{Reached, reach};
-use vm_law::{Bytes, Ctx, Loc, Mem, Stop, Width};
+use crate::effect::{Effect, Performed};
+use crate::reached::read_at;
+use byteorder::{ByteOrder, LittleEndian};
+use vm_law::{Bytes, Ctx, Loc, Mem, Width};
 use x86_op::{address_behind, masked_flags, pass, register, set_register, value_at};
 
 /// RSP by its number.
@@ -15,21 +17,23 @@ const RSP: u8 = 4;
 /// RDX by its number.
 const RDX: u8 = 2;
 
-/// How many bytes IRETQ pops.
-const FRAME: u8 = 40;
-
-/// How many bytes LIDT reads.
-const DESCRIPTOR: u8 = 10;
-
-#[tactic(auto, unfolding(crate::specs::Shared::returned, crate::specs::Shared::eight_at))]
-fn pop_frame<B: Bytes>(ctx: &mut Ctx, len: u8, bytes: &B, at: u64)
-    requires fits { at + 40 < 2 ^ 64 }
-    requires inside { at + 40 ≤ length (B.memory bytes.now).bytes }
-    ensures { ctx.new ≡ spec.returned ctx.old len (B.memory bytes.now) at }
+/// RIP, RFLAGS and RSP in a frame.
+fn popped(frame: &[u8; 40]) -> (u64, u64, u64)
+    ensures rip { result.0 ≡ little_number 8 frame.now }
+    ensures rflags { result.1 ≡ little_number 8 (drop 16 frame.now) }
+    ensures rsp { result.2 ≡ little_number 8 (drop 24 frame.now) }
 {
-    let rip = load_u64(bytes, at);
-    let rflags = load_u64(bytes, at + 16);
-    let rsp = load_u64(bytes, at + 24);
+    let rip = LittleEndian::read_u64(frame);
+    let rflags = LittleEndian::read_u64(&frame[16..]);
+    let rsp = LittleEndian::read_u64(&frame[24..]);
+    (rip, rflags, rsp)
+}
+
+#[tactic(auto, unfolding(crate::specs::Shared::returned))]
+fn return_by(ctx: &mut Ctx, len: u8, frame: &[u8; 40])
+    ensures { ctx.new ≡ spec.returned ctx.old len frame.now }
+{
+    let (rip, rflags, rsp) = popped(frame);
     pass(ctx, len);
     set_register(ctx, RSP, rsp);
     ctx.rip = rip;
@@ -38,58 +42,39 @@ fn pop_frame<B: Bytes>(ctx: &mut Ctx, len: u8, bytes: &B, at: u64)
 }
 
 #[tactic(auto, unfolding(crate::specs::Shared::iret))]
-pub(crate) fn iret<B: Bytes>(ctx: &mut Ctx, len: u8, bytes: &B) -> Effect
-    ensures effect { result ≡ (spec.iret_here ctx.old len (B.memory bytes.now)).effect }
-    ensures ctx { ctx.new ≡ (spec.iret_here ctx.old len (B.memory bytes.now)).ctx }
-    ensures memory { (spec.iret_here ctx.old len (B.memory bytes.now)).memory ≡ B.memory bytes.now }
+pub(crate) fn iret<B: Bytes>(ctx: &mut Ctx, len: u8, bytes: &B) -> Result<Performed, Effect>
+    ensures outcome { outcome result ctx.new (B.memory bytes.now) ≡ spec.iret ctx.old len (B.memory bytes.now) }
+    ensures refused { OnErr result (ctx.new ≡ ctx.old) }
+    ensures stores { IfOk result (λ p. Stores p.stored (B.memory bytes.now) (B.memory bytes.now)) }
 {
-    let at = register(ctx, RSP);
-    match reach(bytes, false, false, at, FRAME) {
-        Reached::Refused(effect) => effect,
-        Reached::Window(_) => Effect::Stop(Stop::Device),
-        Reached::InMemory => {
-            pop_frame(ctx, len, bytes, at);
-            Effect::Done
-        }
-    }
+    let frame = read_at::<B, 40>(bytes, register(ctx, RSP))?;
+    return_by(ctx, len, &frame);
+    Ok(Performed::asking(Effect::Done))
 }
 
-#[tactic(auto, unfolding(crate::specs::Shared::idt_from))]
-fn set_idt<B: Bytes>(ctx: &mut Ctx, len: u8, bytes: &B, at: u64)
-    requires fits { at + 10 < 2 ^ 64 }
-    requires inside { at + 10 ≤ length (B.memory bytes.now).bytes }
-    ensures { ctx.new ≡ spec.idt_from ctx.old len (B.memory bytes.now) at }
+#[tactic(auto, unfolding(crate::specs::Shared::with_idt))]
+fn set_idt(ctx: &mut Ctx, len: u8, operand: &[u8; 10])
+    ensures { ctx.new ≡ spec.with_idt ctx.old len operand.now }
 {
-    let limit = load_u16(bytes, at);
-    let base = load_u64(bytes, at + 2);
     pass(ctx, len);
-    ctx.idt_limit = limit;
-    ctx.idt_base = base;
+    ctx.idt_limit = LittleEndian::read_u16(operand);
+    ctx.idt_base = LittleEndian::read_u64(&operand[2..]);
 }
 
 #[tactic(auto, unfolding(crate::specs::Shared::lidt))]
-fn lidt_at<B: Bytes>(ctx: &mut Ctx, len: u8, bytes: &B, at: u64) -> Effect
-    ensures effect { result ≡ (spec.lidt_at ctx.old len (B.memory bytes.now) at).effect }
-    ensures ctx { ctx.new ≡ (spec.lidt_at ctx.old len (B.memory bytes.now) at).ctx }
-    ensures memory { (spec.lidt_at ctx.old len (B.memory bytes.now) at).memory ≡ B.memory bytes.now }
+pub(crate) fn lidt<B: Bytes>(
+    ctx: &mut Ctx,
+    len: u8,
+    bytes: &B,
+    operand: &Mem,
+) -> Result<Performed, Effect>
+    ensures outcome { outcome result ctx.new (B.memory bytes.now) ≡ spec.lidt ctx.old len (B.memory bytes.now) operand.now }
+    ensures refused { OnErr result (ctx.new ≡ ctx.old) }
+    ensures stores { IfOk result (λ p. Stores p.stored (B.memory bytes.now) (B.memory bytes.now)) }
 {
-    match reach(bytes, false, false, at, DESCRIPTOR) {
-        Reached::Refused(effect) => effect,
-        Reached::Window(_) => Effect::Stop(Stop::Device),
-        Reached::InMemory => {
-            set_idt(ctx, len, bytes, at);
-            Effect::Done
-        }
-    }
-}
-
-pub(crate) fn lidt<B: Bytes>(ctx: &mut Ctx, len: u8, bytes: &B, operand: &Mem) -> Effect
-    ensures effect { result ≡ (spec.lidt_of ctx.old len (B.memory bytes.now) operand.now).effect }
-    ensures ctx { ctx.new ≡ (spec.lidt_of ctx.old len (B.memory bytes.now) operand.now).ctx }
-    ensures memory { (spec.lidt_of ctx.old len (B.memory bytes.now) operand.now).memory ≡ B.memory bytes.now }
-{
-    let at = address_behind(ctx, len, operand);
-    lidt_at(ctx, len, bytes, at)
+    let operand = read_at::<B, 10>(bytes, address_behind(ctx, len, operand))?;
+    set_idt(ctx, len, &operand);
+    Ok(Performed::asking(Effect::Done))
 }
 
 /// The port that is named, or else DX.
@@ -103,12 +88,13 @@ pub(crate) fn port_of(ctx: &Ctx, port: Option<u8>) -> u16
     }
 }
 
-pub(crate) fn out(ctx: &mut Ctx, len: u8, width: Width, port: Option<u8>) -> Effect
-    ensures effect { result ≡ spec.out_effect ctx.old width port }
-    ensures ctx { ctx.new ≡ passed ctx.old len }
+#[tactic(auto, unfolding(crate::specs::Shared::out))]
+pub(crate) fn out(ctx: &mut Ctx, len: u8, width: Width, port: Option<u8>) -> Performed
+    ensures shared { (mem : Memory) → record { effect = result.effect; ctx = ctx.new; memory = mem; stored = result.stored } ≡ spec.out ctx.old len mem width port }
+    ensures stores { (mem : Memory) → Stores result.stored mem mem }
 {
     let port = port_of(ctx, port);
     let value = (value_at(ctx, width, 0, &Loc::Reg(0)) & 0xFFFF_FFFF) as u32;
     pass(ctx, len);
-    Effect::PortOut { port, width, value }
+    Performed::asking(Effect::PortOut { port, width, value })
 }

@@ -1,31 +1,34 @@
 -- ADD to CMP, TEST, NOT, NEG, INC, DEC, MUL, IMUL, DIV, IDIV. c is the context behind the instruction.
 -- Source: Intel SDM volume 2, the pages of the instructions.
-use Rattle.std.specs.Prelude.{ℕ, ◌%◌, ◌/◌, ℤ, Bool, true, false, ◌&&◌, ◌==◌, if◌then◌else◌}
+use Rattle.std.specs.Prelude.{ℕ, ◌%◌, ◌/◌, ℤ, Bool, true, false, if◌then◌else◌}
 use Rattle.vm_law.specs.declared.context.Ctx.{Ctx}
 use Rattle.vm_law.specs.declared.insn.Width.{Width}
 use Rattle.vm_law.specs.declared.insn.Loc.{Loc}
 use Rattle.vm_law.specs.declared.insn.Loc.TheVariants as loc
 use Rattle.vm_law.specs.declared.insn.Src.{Src}
+use Rattle.vm_law.specs.declared.insn.ArithmeticOp.{ArithmeticOp}
+use Rattle.vm_law.specs.declared.insn.ArithmeticOp.TheVariants as arithmetic
+use Rattle.vm_law.specs.declared.insn.UnaryOp.{UnaryOp}
+use Rattle.vm_law.specs.declared.insn.UnaryOp.TheVariants as unary
 use Rattle.x86_alu.specs.Operand.{span, residue}
 use Rattle.x86_alu.specs.Flags.{carry_of}
 use Rattle.x86_alu.specs.declared.op.AluOp.{AluOp}
 use Rattle.x86_alu.specs.declared.op.AluOp.TheVariants as alu
 use Rattle.x86_alu.specs.Arithmetic.{alu_result, alu_flags}
 use Rattle.x86_alu.specs.Product.{product_bits, mul_flags, quotient_of, remainder_of, div_faults, div_flags}
-use Rattle.x86_op.specs.Operand.{value_at, source_at, immediate, with_value, with_pair, upper_half}
+use Rattle.x86_op.specs.Operand.{RAX, value_at, source_at, immediate, with_value, with_pair, upper_half}
 use Rattle.x86_op.specs.Done.{Done, flagged, only}
 
--- ADD 0, OR 1, ADC 2, SBB 3, AND 4, SUB 5, XOR 6, CMP 7
-unfoldable pub alu_of : ℕ → AluOp
-alu_of k =
-    if k == 0 then alu.Add
-    else (if k == 1 then alu.Or
-    else (if k == 2 then alu.Adc
-    else (if k == 3 then alu.Sbb
-    else (if k == 4 then alu.And
-    else (if k == 5 then alu.Sub
-    else (if k == 6 then alu.Xor
-    else alu.Cmp))))))
+-- the operation with its result and its flags
+unfoldable pub alu_of : ArithmeticOp → AluOp
+alu_of arithmetic.Add = alu.Add
+alu_of arithmetic.Or = alu.Or
+alu_of arithmetic.Adc = alu.Adc
+alu_of arithmetic.Sbb = alu.Sbb
+alu_of arithmetic.And = alu.And
+alu_of arithmetic.Sub = alu.Sub
+alu_of arithmetic.Xor = alu.Xor
+alu_of arithmetic.Cmp = alu.Cmp
 
 -- the result goes to the place that held a
 unfoldable pub operated : Ctx → AluOp → Width → Loc → ℕ → ℕ → Done
@@ -37,15 +40,26 @@ operated c op w l a b =
 unfoldable pub compared : Ctx → AluOp → Width → ℕ → ℕ → Ctx
 compared c op w a b = flagged c (alu_flags op (span w) a b c.rflags)
 
-unfoldable pub alu_done : Ctx → Width → ℕ → ℕ → Loc → Src → Done
-alu_done c w m k l s =
-    if k == 7 then only (compared c alu.Cmp w (value_at c w m l) (source_at c w m s))
-    else operated c (alu_of k) w l (value_at c w m l) (source_at c w m s)
+-- CMP drops its result
+abbrev pub drops_result : ArithmeticOp → Bool
+drops_result arithmetic.Add = false
+drops_result arithmetic.Or = false
+drops_result arithmetic.Adc = false
+drops_result arithmetic.Sbb = false
+drops_result arithmetic.And = false
+drops_result arithmetic.Sub = false
+drops_result arithmetic.Xor = false
+drops_result arithmetic.Cmp = true
+
+unfoldable pub alu_done : Ctx → Width → ℕ → ArithmeticOp → Loc → Src → Done
+alu_done c w read k l s =
+    if drops_result k then only (compared c (alu_of k) w (value_at c w read l) (source_at c w read s))
+    else operated c (alu_of k) w l (value_at c w read l) (source_at c w read s)
 
 -- rDX:rAX, at width 8 AX, becomes the product of rAX and an operand
 unfoldable pub multiplied : Ctx → Bool → Width → ℕ → Ctx
 multiplied c s w b =
-    let a = value_at c w 0 (loc.Reg 0) in
+    let a = value_at c w 0 (loc.Reg RAX) in
     with_pair (flagged c (mul_flags s (span w) a b c.rflags)) w (product_bits s (span w) a b % span w) (product_bits s (span w) a b / span w)
 
 -- a register becomes the lower half of a signed product
@@ -54,34 +68,35 @@ multiplied_to c w r a b = with_value (flagged c (mul_flags true (span w) a b c.r
 
 -- #DE: the divisor is 0, or the quotient of rDX:rAX, at width 8 of AX, doesn't fit
 unfoldable pub faults_by : Ctx → Bool → Width → ℕ → Bool
-faults_by c s w by = div_faults s (span w) (value_at c w 0 (upper_half w)) (value_at c w 0 (loc.Reg 0)) by
+faults_by c s w by = div_faults s (span w) (value_at c w 0 (upper_half w)) (value_at c w 0 (loc.Reg RAX)) by
 
 -- else the lower half becomes the quotient, and the upper half the remainder
 unfoldable pub divided : Ctx → Bool → Width → ℕ → Ctx
 divided c s w by =
     let high = value_at c w 0 (upper_half w) in
-    let low = value_at c w 0 (loc.Reg 0) in
+    let low = value_at c w 0 (loc.Reg RAX) in
     if div_faults s (span w) high low by then c
     else with_pair (flagged c (div_flags c.rflags)) w (residue (span w) (quotient_of s (span w) high low by)) (residue (span w) (remainder_of s (span w) high low by))
 
--- NOT 2, NEG 3, MUL 4, IMUL 5, DIV 6, IDIV 7
-unfoldable pub unary_done : Ctx → Width → ℕ → ℕ → Loc → Done
-unary_done c w m k l =
-    if k == 2 then operated c alu.Not w l (value_at c w m l) 0
-    else (if k == 3 then operated c alu.Neg w l (value_at c w m l) 0
-    else (if k == 4 then only (multiplied c false w (value_at c w m l))
-    else (if k == 5 then only (multiplied c true w (value_at c w m l))
-    else (if k == 6 then only (divided c false w (value_at c w m l))
-    else only (divided c true w (value_at c w m l))))))
+unfoldable pub unary_done : Ctx → Width → ℕ → UnaryOp → Loc → Done
+unary_done c w read unary.Not l = operated c alu.Not w l (value_at c w read l) 0
+unary_done c w read unary.Neg l = operated c alu.Neg w l (value_at c w read l) 0
+unary_done c w read unary.Mul l = only (multiplied c false w (value_at c w read l))
+unary_done c w read unary.Imul l = only (multiplied c true w (value_at c w read l))
+unary_done c w read unary.Div l = only (divided c false w (value_at c w read l))
+unary_done c w read unary.Idiv l = only (divided c true w (value_at c w read l))
 
-unfoldable pub unary_faults : Ctx → Width → ℕ → ℕ → Loc → Bool
-unary_faults c w m k l =
-    if k == 6 then faults_by c false w (value_at c w m l)
-    else (k == 7 && faults_by c true w (value_at c w m l))
+unfoldable pub unary_faults : Ctx → Width → ℕ → UnaryOp → Loc → Bool
+unary_faults c w read unary.Not l = false
+unary_faults c w read unary.Neg l = false
+unary_faults c w read unary.Mul l = false
+unary_faults c w read unary.Imul l = false
+unary_faults c w read unary.Div l = faults_by c false w (value_at c w read l)
+unary_faults c w read unary.Idiv l = faults_by c true w (value_at c w read l)
 
 -- IMUL of a register by an operand, and of an operand by an immediate into a register
 unfoldable pub imul2_done : Ctx → Width → ℕ → ℕ → Loc → Ctx
-imul2_done c w m r l = multiplied_to c w r (value_at c w m (loc.Reg r)) (value_at c w m l)
+imul2_done c w read r l = multiplied_to c w r (value_at c w read (loc.Reg r)) (value_at c w read l)
 
 unfoldable pub imul3_done : Ctx → Width → ℕ → ℕ → Loc → ℤ → Ctx
-imul3_done c w m r l value = multiplied_to c w r (value_at c w m l) (immediate w value)
+imul3_done c w read r l value = multiplied_to c w r (value_at c w read l) (immediate w value)

@@ -1,21 +1,34 @@
--- Conditions of Jcc, SETcc and CMOVcc: O, NO, B, AE, E, NE, BE, A, S, NS, P, NP, L, GE, LE, G as 0 to 15.
--- Source: Intel SDM volume 1, appendix B.
-use Rattle.std.specs.Prelude.{ℕ, ◌/◌, ◌%◌, Bool, not, ◌||◌, ◌==◌, if◌then◌else◌}
-use Rattle.x86_alu.specs.Flags.{is_set}
+-- Conditions of Jcc, SETcc and CMOVcc, on RFLAGS. Source: Intel SDM volume 1, appendix B.
+use Rattle.std.specs.Prelude.{ℕ, Bool, not, ◌||◌}
+use Rattle.vm_law.specs.declared.insn.Condition.{Condition}
+use Rattle.vm_law.specs.declared.insn.Condition.TheVariants as condition
+use Rattle.x86_alu.specs.Flags.{CF, PF, ZF, SF, OF, is_set}
 use Rattle.x86_alu.specs.Shift.{differ}
 
--- the condition without its lowest bit; CF is bit 0, PF 2, ZF 6, SF 7, OF 11
-unfoldable pub tested : ℕ → ℕ → Bool
-tested f k =
-    if k == 0 then is_set f 11
-    else (if k == 1 then is_set f 0
-    else (if k == 2 then is_set f 6
-    else (if k == 3 then is_set f 0 || is_set f 6
-    else (if k == 4 then is_set f 7
-    else (if k == 5 then is_set f 2
-    else (if k == 6 then differ (is_set f 7) (is_set f 11)
-    else is_set f 6 || differ (is_set f 7) (is_set f 11)))))))
+-- below or equal, less, and less or equal
+abbrev pub is_below_or_equal : ℕ → Bool
+is_below_or_equal flags = is_set flags CF || is_set flags ZF
 
--- the lowest bit turns the condition over
-unfoldable pub holds : ℕ → ℕ → Bool
-holds f cc = if cc % 2 == 0 then tested f (cc / 2) else not (tested f (cc / 2))
+abbrev pub is_less : ℕ → Bool
+is_less flags = differ (is_set flags SF) (is_set flags OF)
+
+abbrev pub is_less_or_equal : ℕ → Bool
+is_less_or_equal flags = is_set flags ZF || is_less flags
+
+unfoldable pub holds : ℕ → Condition → Bool
+holds flags condition.O = is_set flags OF
+holds flags condition.No = not (is_set flags OF)
+holds flags condition.B = is_set flags CF
+holds flags condition.Ae = not (is_set flags CF)
+holds flags condition.E = is_set flags ZF
+holds flags condition.Ne = not (is_set flags ZF)
+holds flags condition.Be = is_below_or_equal flags
+holds flags condition.A = not (is_below_or_equal flags)
+holds flags condition.S = is_set flags SF
+holds flags condition.Ns = not (is_set flags SF)
+holds flags condition.P = is_set flags PF
+holds flags condition.Np = not (is_set flags PF)
+holds flags condition.L = is_less flags
+holds flags condition.Ge = not (is_less flags)
+holds flags condition.Le = is_less_or_equal flags
+holds flags condition.G = not (is_less_or_equal flags)

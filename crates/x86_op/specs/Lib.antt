@@ -6,5 +6,6 @@ pub mod Arithmetic
 pub mod Moves
 pub mod Bits
 pub mod Flow
+pub mod Touch
 pub mod Table
 pub mod Access

@@ -12,6 +12,22 @@ use Rattle.vm_law.specs.declared.insn.Src.{Src}
 use Rattle.vm_law.specs.declared.insn.Src.TheVariants as src
 use Rattle.x86_alu.specs.Operand.{span}
 
+-- the numbers of the general registers that instructions use without naming them
+abbrev pub RAX : ℕ
+RAX = 0
+
+abbrev pub RCX : ℕ
+RCX = 1
+
+abbrev pub RDX : ℕ
+RDX = 2
+
+abbrev pub RSP : ℕ
+RSP = 4
+
+abbrev pub RBP : ℕ
+RBP = 5
+
 -- a general register by its number, which is below 16
 unfoldable pub register : Ctx → ℕ → ℕ
 register c r = slice_index c.regs r
@@ -34,15 +50,15 @@ with_second old value = old / 2 ^ 16 * 2 ^ 16 + value * 2 ^ 8 + old % 2 ^ 8
 unfoldable pub immediate : Width → ℤ → ℕ
 immediate w value = cast_unsigned w64 value % span w
 
--- the value of an operand; m is what was read at the operand in memory, where there is one
+-- the value of an operand; read is what was read at the operand in memory, where there is one
 unfoldable pub value_at : Ctx → Width → ℕ → Loc → ℕ
-value_at c w m (loc.Reg r) = register c r % span w
-value_at c w m (loc.High r) = register c r / 2 ^ 8 % 2 ^ 8
-value_at c w m (loc.Mem a) = m % span w
+value_at c w read (loc.Reg r) = register c r % span w
+value_at c w read (loc.High r) = register c r / 2 ^ 8 % 2 ^ 8
+value_at c w read (loc.Mem a) = read % span w
 
 unfoldable pub source_at : Ctx → Width → ℕ → Src → ℕ
-source_at c w m (src.Loc l) = value_at c w m l
-source_at c w m (src.Imm value) = immediate w value
+source_at c w read (src.Loc l) = value_at c w read l
+source_at c w read (src.Imm value) = immediate w value
 
 -- the context after a result for a register. One for memory is stored by the caller
 unfoldable pub with_value : Ctx → Width → Loc → ℕ → Ctx
@@ -53,12 +69,12 @@ with_value c w (loc.Mem a) value = c
 -- rDX and rAX, at width 8 AH and AL: the upper half of a double operand, and its lower half
 unfoldable pub upper_half : Width → Loc
 upper_half width.B = loc.High 0
-upper_half width.W = loc.Reg 2
-upper_half width.D = loc.Reg 2
-upper_half width.Q = loc.Reg 2
+upper_half width.W = loc.Reg RDX
+upper_half width.D = loc.Reg RDX
+upper_half width.Q = loc.Reg RDX
 
 unfoldable pub with_pair : Ctx → Width → ℕ → ℕ → Ctx
-with_pair c w lower upper = with_value (with_value c w (loc.Reg 0) lower) w (upper_half w) upper
+with_pair c w lower upper = with_value (with_value c w (loc.Reg RAX) lower) w (upper_half w) upper
 
 -- behind an instruction of so many bytes, with no interrupt held off
 unfoldable pub passed : Ctx → ℕ → Ctx

@@ -1,6 +1,6 @@
--- What each instruction computes. c is the context behind the instruction, w its width, and m what was read at its operand in
--- memory or from the stack. An instruction that touches neither registers nor flags, and one that isn't computed here, IN,
--- OUT, INT, IRETQ, UD2, LIDT and HLT, leaves the context.
+-- Each operation by its line: what it touches, what it computes, and whether it faults. c is the context behind the
+-- instruction, w its width, and read what was read at its operand in memory or from the stack.
+-- Source: Intel SDM volume 2, the pages of the instructions.
 use Rattle.std.specs.Prelude.{ℕ, Bool, true, false, not}
 use Rattle.vm_law.specs.declared.context.Ctx.{Ctx}
 use Rattle.vm_law.specs.declared.insn.Width.{Width}
@@ -11,79 +11,113 @@ use Rattle.vm_law.specs.declared.insn.Insn.{Insn}
 use Rattle.x86_alu.specs.declared.op.AluOp.TheVariants as alu
 use Rattle.x86_alu.specs.declared.op.BitOp.TheVariants as bit
 use Rattle.x86_alu.specs.Flags.{carry_of}
+use Rattle.x86_op.specs.declared.access.Way.TheVariants as way
+use Rattle.x86_op.specs.declared.touch.Touch.{Touch}
+use Rattle.x86_op.specs.declared.touch.Touch.TheVariants.{Nothing, Push, Pop, Frame, System}
+use Rattle.x86_op.specs.Touch.{in_memory, either, operand, loads, stores, modifies, compares, with_source, stores_unless, only_reads}
 use Rattle.x86_op.specs.Operand.{value_at, source_at, passed}
 use Rattle.x86_op.specs.Done.{Done, only}
-use Rattle.x86_op.specs.Arithmetic.{alu_done, operated, compared, unary_done, unary_faults, imul2_done, imul3_done}
+use Rattle.x86_op.specs.Arithmetic.{drops_result, alu_done, operated, compared, unary_done, unary_faults, imul2_done, imul3_done}
 use Rattle.x86_op.specs.Moves.{mov_done, movzx_done, movsx_done, lea_done, xchg_done, cmpxchg_done, xadd_done, bswap_done, is_equal, setcc_done, cmov_done, widen_done, sign_fill_done}
-use Rattle.x86_op.specs.Bits.{shift_done, bit_done, scan_done}
+use Rattle.x86_op.specs.Bits.{only_tests, shift_done, bit_done, scan_done}
 use Rattle.x86_op.specs.Flow.{jumped, jumped_to, jcc_done, push_done, pop_done, call_done, call_register_done, ret_done, leave_done, pushf_done, popf_done, carry_done, direction_done, sti_done, cli_done}
 
-unfoldable pub flow_done : Ctx → Width → Op → ℕ → Done
-flow_done c w (op.Jcc cc by) m = only (jcc_done c cc by)
-flow_done c w (op.Jmp by) m = only (jumped c by)
-flow_done c w (op.JmpTo l) m = only (jumped_to c (value_at c width.Q m l))
-flow_done c w (op.Call by) m = call_done c by
-flow_done c w (op.CallReg r) m = call_register_done c r
-flow_done c w (op.Ret n) m = only (ret_done c m n)
-flow_done c w (op.Push s) m = push_done c m s
-flow_done c w (op.Pop r) m = only (pop_done c m r)
-flow_done c w op.Leave m = only (leave_done c m)
-flow_done c w op.PushF m = pushf_done c
-flow_done c w op.PopF m = only (popf_done c m)
-flow_done c w op.Clc m = only (carry_done c false)
-flow_done c w op.Stc m = only (carry_done c true)
-flow_done c w op.Cmc m = only (carry_done c (not (carry_of c.rflags)))
-flow_done c w op.Cld m = only (direction_done c false)
-flow_done c w op.Std m = only (direction_done c true)
-flow_done c w op.Sti m = only (sti_done c)
-flow_done c w op.Cli m = only (cli_done c)
-flow_done c w o m = only c
+pub record Line : Type 0 where
+  -- besides registers and flags
+  pub touch : Touch
+  pub done : Ctx → ℕ → Done
+  -- a division that can't be done
+  pub faults : Ctx → ℕ → Bool
+  -- CMPXCHG's destination holds what the accumulator holds, so that it is written
+  pub matches : Ctx → ℕ → Bool
 
-unfoldable pub moves_done : Ctx → Width → Op → ℕ → Done
-moves_done c w (op.Mov l s) m = mov_done c w m l s
-moves_done c w (op.MovZx r from l) m = only (movzx_done c w m r from l)
-moves_done c w (op.MovSx r from l) m = only (movsx_done c w m r from l)
-moves_done c w (op.Lea r a) m = only (lea_done c w r a)
-moves_done c w (op.Xchg a b) m = xchg_done c w m a b
-moves_done c w (op.CmpXchg a b) m = cmpxchg_done c w m a b
-moves_done c w (op.Xadd a b) m = xadd_done c w m a b
-moves_done c w (op.Bswap r) m = only (bswap_done c w r)
-moves_done c w (op.SetCc cc l) m = setcc_done c cc l
-moves_done c w (op.CMov cc r l) m = only (cmov_done c w m cc r l)
-moves_done c w op.Widen m = only (widen_done c w)
-moves_done c w op.SignFill m = only (sign_fill_done c w)
-moves_done c w o m = flow_done c w o m
+abbrev never : Ctx → ℕ → Bool
+never c read = false
 
-unfoldable pub done_op : Ctx → Width → Op → ℕ → Done
-done_op c w (op.Alu k l s) m = alu_done c w m k l s
-done_op c w (op.Test l s) m = only (compared c alu.Test w (value_at c w m l) (source_at c w m s))
-done_op c w (op.Unary k l) m = unary_done c w m k l
-done_op c w (op.Inc l) m = operated c alu.Inc w l (value_at c w m l) 0
-done_op c w (op.Dec l) m = operated c alu.Dec w l (value_at c w m l) 0
-done_op c w (op.Imul2 r l) m = only (imul2_done c w m r l)
-done_op c w (op.Imul3 r l value) m = only (imul3_done c w m r l value)
-done_op c w (op.Shift k l n) m = shift_done c w m k l n
-done_op c w (op.Bit k l s) m = bit_done c w m k l s
-done_op c w (op.Bsf r l) m = only (scan_done c bit.Bsf w m r l)
-done_op c w (op.Bsr r l) m = only (scan_done c bit.Bsr w m r l)
-done_op c w o m = moves_done c w o m
+-- a line that never faults: with a value for the operand in memory, or without one
+abbrev pub computes : Touch → (Ctx → ℕ → Done) → Line
+computes t f = record { touch = t; done = f; faults = never; matches = never }
 
--- a division that can't be done
-unfoldable pub op_faults : Ctx → Width → Op → ℕ → Bool
-op_faults c w (op.Unary k l) m = unary_faults c w m k l
-op_faults c w o m = false
+abbrev pub changes : Touch → (Ctx → ℕ → Ctx) → Line
+changes t f = computes t (λ c read. only (f c read))
 
--- the same of an instruction of so many bytes, from the context before it
+-- one that leaves the context: of an operation that isn't computed here, or that touches neither registers nor flags
+abbrev pub passes : Touch → Line
+passes t = changes t (λ c read. c)
+
+unfoldable pub line : Width → Op → Line
+line w (op.Alu k l s) = computes (with_source (stores_unless (drops_result k)) w l s) (λ c read. alu_done c w read k l s)
+line w (op.Test l s) = changes (with_source way.Load w l s) (λ c read. compared c alu.Test w (value_at c w read l) (source_at c w read s))
+line w (op.Unary k l) = record {
+  touch = operand w (in_memory (stores_unless (only_reads k)) l);
+  done = λ c read. unary_done c w read k l;
+  faults = λ c read. unary_faults c w read k l;
+  matches = never;
+}
+line w (op.Inc l) = computes (modifies w l) (λ c read. operated c alu.Inc w l (value_at c w read l) 0)
+line w (op.Dec l) = computes (modifies w l) (λ c read. operated c alu.Dec w l (value_at c w read l) 0)
+line w (op.Imul2 r l) = changes (loads w l) (λ c read. imul2_done c w read r l)
+line w (op.Imul3 r l value) = changes (loads w l) (λ c read. imul3_done c w read r l value)
+line w (op.Mov l s) = computes (with_source way.Store w l s) (λ c read. mov_done c w read l s)
+line w (op.MovZx r from l) = changes (loads from l) (λ c read. movzx_done c w read r from l)
+line w (op.MovSx r from l) = changes (loads from l) (λ c read. movsx_done c w read r from l)
+line w (op.Lea r a) = changes Nothing (λ c read. lea_done c w r a)
+line w (op.Xchg a b) = computes (operand w (either (in_memory way.Modify a) (in_memory way.Modify b))) (λ c read. xchg_done c w read a b)
+line w (op.CmpXchg a b) = record {
+  touch = compares w a;
+  done = λ c read. cmpxchg_done c w read a b;
+  faults = never;
+  matches = λ c read. is_equal c w read a;
+}
+line w (op.Xadd a b) = computes (modifies w a) (λ c read. xadd_done c w read a b)
+line w (op.Shift k l n) = computes (modifies w l) (λ c read. shift_done c w read k l n)
+line w (op.Bit k l s) = computes (operand w (in_memory (stores_unless (only_tests k)) l)) (λ c read. bit_done c w read k l s)
+line w (op.Bsf r l) = changes (loads w l) (λ c read. scan_done c bit.Bsf w read r l)
+line w (op.Bsr r l) = changes (loads w l) (λ c read. scan_done c bit.Bsr w read r l)
+line w (op.Bswap r) = changes Nothing (λ c read. bswap_done c w r)
+line w (op.SetCc cc l) = computes (stores width.B l) (λ c read. setcc_done c cc l)
+line w (op.CMov cc r l) = changes (loads w l) (λ c read. cmov_done c w read cc r l)
+line w (op.Jcc cc by) = changes Nothing (λ c read. jcc_done c cc by)
+line w (op.Jmp by) = changes Nothing (λ c read. jumped c by)
+line w (op.Call by) = computes Push (λ c read. call_done c by)
+line w (op.JmpTo l) = changes (loads width.Q l) (λ c read. jumped_to c (value_at c width.Q read l))
+line w (op.CallReg r) = computes Push (λ c read. call_register_done c r)
+line w (op.Ret n) = changes Pop (λ c read. ret_done c read n)
+line w (op.Push s) = computes Push (λ c read. push_done c read s)
+line w (op.Pop r) = changes Pop (λ c read. pop_done c read r)
+line w op.Leave = changes Frame (λ c read. leave_done c read)
+line w op.PushF = computes Push (λ c read. pushf_done c)
+line w op.PopF = changes Pop (λ c read. popf_done c read)
+line w op.Widen = changes Nothing (λ c read. widen_done c w)
+line w op.SignFill = changes Nothing (λ c read. sign_fill_done c w)
+line w op.Clc = changes Nothing (λ c read. carry_done c false)
+line w op.Stc = changes Nothing (λ c read. carry_done c true)
+line w op.Cmc = changes Nothing (λ c read. carry_done c (not (carry_of c.rflags)))
+line w op.Cld = changes Nothing (λ c read. direction_done c false)
+line w op.Std = changes Nothing (λ c read. direction_done c true)
+line w (op.In port) = passes System
+line w (op.Out port) = passes System
+line w (op.Int v) = passes System
+line w op.Iret = passes System
+line w op.Ud2 = passes System
+line w (op.Lidt a) = passes System
+line w op.Hlt = passes System
+line w op.Sti = changes System (λ c read. sti_done c)
+line w op.Cli = changes System (λ c read. cli_done c)
+line w (op.Nop l) = passes Nothing
+line w op.Pause = passes Nothing
+line w op.Endbr = passes Nothing
+line w (op.Fence kind) = passes Nothing
+
+abbrev pub line_of : Insn → Line
+line_of insn = line insn.width insn.op
+
+-- of an instruction of so many bytes, from the context before it
 abbrev pub computed : Ctx → Insn → ℕ → ℕ → Done
-computed c insn len m = done_op (passed c len) insn.width insn.op m
+computed c insn len read = (line_of insn).done (passed c len) read
 
 abbrev pub faults : Ctx → Insn → ℕ → Bool
-faults c insn m = op_faults c insn.width insn.op m
-
--- CMPXCHG's destination holds what the accumulator holds, so that it is written
-unfoldable pub matches_op : Ctx → Width → Op → ℕ → Bool
-matches_op c w (op.CmpXchg a b) m = is_equal c w m a
-matches_op c w o m = false
+faults c insn read = (line_of insn).faults c read
 
 abbrev pub matches_accumulator : Ctx → Insn → ℕ → Bool
-matches_accumulator c insn m = matches_op c insn.width insn.op m
+matches_accumulator c insn read = (line_of insn).matches c read

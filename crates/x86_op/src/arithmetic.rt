@@ -5,27 +5,46 @@ ghost use Rattle.x86_alu.specs.Operand.{span};
 ghost use Rattle.x86_op.specs.Arithmetic as spec;
 
 use crate::operand::{immediate, set_pair, set_value, source_at, upper_half, value_at};
-use vm_law::{Ctx, Loc, Src, Width};
+use vm_law::{ArithmeticOp, Ctx, Loc, Src, UnaryOp, Width};
 use x86_alu::{AluOp, alu, div, mul};
 
-/// The operation by its number: ADD 0, OR 1, ADC 2, SBB 3, AND 4, SUB 5, XOR 6, CMP 7.
+// The operation, with its result and its flags.
+#[inline(always)]
 #[tactic(auto, unfolding(crate::specs::Arithmetic::alu_of))]
-fn alu_of(k: u8) -> AluOp
-    ensures { result ≡ spec.alu_of k }
+fn alu_of(op: ArithmeticOp) -> AluOp
+    ensures { result ≡ spec.alu_of op }
 {
-    match k {
-        0 => AluOp::Add,
-        1 => AluOp::Or,
-        2 => AluOp::Adc,
-        3 => AluOp::Sbb,
-        4 => AluOp::And,
-        5 => AluOp::Sub,
-        6 => AluOp::Xor,
-        _ => AluOp::Cmp,
+    match op {
+        ArithmeticOp::Add => AluOp::Add,
+        ArithmeticOp::Or => AluOp::Or,
+        ArithmeticOp::Adc => AluOp::Adc,
+        ArithmeticOp::Sbb => AluOp::Sbb,
+        ArithmeticOp::And => AluOp::And,
+        ArithmeticOp::Sub => AluOp::Sub,
+        ArithmeticOp::Xor => AluOp::Xor,
+        ArithmeticOp::Cmp => AluOp::Cmp,
+    }
+}
+
+/// Whether the result is dropped.
+#[inline(always)]
+pub(crate) fn drops_result(op: ArithmeticOp) -> bool
+    ensures { result ≡ spec.drops_result op }
+{
+    match op {
+        ArithmeticOp::Add
+        | ArithmeticOp::Or
+        | ArithmeticOp::Adc
+        | ArithmeticOp::Sbb
+        | ArithmeticOp::And
+        | ArithmeticOp::Sub
+        | ArithmeticOp::Xor => false,
+        ArithmeticOp::Cmp => true,
     }
 }
 
 /// An operation whose result goes to the place that held `a`. Answers the result.
+#[inline(always)]
 #[tactic(auto, unfolding(crate::specs::Arithmetic::operated, crate::specs::Done::flagged))]
 pub(crate) fn operate(ctx: &mut Ctx, op: AluOp, width: Width, loc: &Loc, a: u64, b: u64) -> u64
     requires a_fits { a < span width }
@@ -41,6 +60,7 @@ pub(crate) fn operate(ctx: &mut Ctx, op: AluOp, width: Width, loc: &Loc, a: u64,
 }
 
 /// An operation whose result is dropped.
+#[inline(always)]
 #[tactic(auto, unfolding(crate::specs::Arithmetic::compared, crate::specs::Done::flagged))]
 pub(crate) fn compare(ctx: &mut Ctx, op: AluOp, width: Width, a: u64, b: u64)
     requires a_fits { a < span width }
@@ -50,20 +70,41 @@ pub(crate) fn compare(ctx: &mut Ctx, op: AluOp, width: Width, a: u64, b: u64)
     ctx.rflags = alu(op, width, a, b, ctx.rflags).1;
 }
 
-/// ADD to CMP. Answers the value for an operand in memory, which CMP doesn't write.
-#[tactic(auto, unfolding(crate::specs::Arithmetic::alu_done))]
-pub(crate) fn alu_done(ctx: &mut Ctx, width: Width, m: u64, k: u8, loc: &Loc, src: &Src) -> u64
-    ensures ctx { ctx.new ≡ (spec.alu_done ctx.old width m k loc.now src.now).ctx }
-    ensures stored { result ≡ (spec.alu_done ctx.old width m k loc.now src.now).stored }
+/// ADD to CMP. Answers the value for an operand in memory, which CMP doesn't write. Each width has code of its own.
+pub(crate) fn alu_done(
+    ctx: &mut Ctx,
+    width: Width,
+    read: u64,
+    op: ArithmeticOp,
+    loc: &Loc,
+    src: &Src,
+) -> u64
+    ensures ctx { ctx.new ≡ (spec.alu_done ctx.old width read op loc.now src.now).ctx }
+    ensures stored { result ≡ (spec.alu_done ctx.old width read op loc.now src.now).stored }
     ensures fits { result < span width }
 {
-    let a = value_at(ctx, width, m, loc);
-    let b = source_at(ctx, width, m, src);
-    if k == 7 {
-        compare(ctx, AluOp::Cmp, width, a, b);
+    match width {
+        Width::B => alu_at(ctx, Width::B, read, op, loc, src),
+        Width::W => alu_at(ctx, Width::W, read, op, loc, src),
+        Width::D => alu_at(ctx, Width::D, read, op, loc, src),
+        Width::Q => alu_at(ctx, Width::Q, read, op, loc, src),
+    }
+}
+
+#[inline(always)]
+#[tactic(auto, unfolding(crate::specs::Arithmetic::alu_done))]
+fn alu_at(ctx: &mut Ctx, width: Width, read: u64, op: ArithmeticOp, loc: &Loc, src: &Src) -> u64
+    ensures ctx { ctx.new ≡ (spec.alu_done ctx.old width read op loc.now src.now).ctx }
+    ensures stored { result ≡ (spec.alu_done ctx.old width read op loc.now src.now).stored }
+    ensures fits { result < span width }
+{
+    let a = value_at(ctx, width, read, loc);
+    let b = source_at(ctx, width, read, src);
+    if drops_result(op) {
+        compare(ctx, alu_of(op), width, a, b);
         0
     } else {
-        operate(ctx, alu_of(k), width, loc, a, b)
+        operate(ctx, alu_of(op), width, loc, a, b)
     }
 }
 
@@ -116,53 +157,54 @@ fn divide(ctx: &mut Ctx, signed: bool, width: Width, by: u64)
     }
 }
 
-/// NOT 2, NEG 3, MUL 4, IMUL 5, DIV 6, IDIV 7. Answers the value for an operand in memory, which NOT and NEG write.
+/// NOT, NEG, MUL, IMUL, DIV, IDIV. Answers the value for an operand in memory, which NOT and NEG write.
 #[tactic(auto, unfolding(crate::specs::Arithmetic::unary_done))]
-pub(crate) fn unary_done(ctx: &mut Ctx, width: Width, m: u64, k: u8, loc: &Loc) -> u64
-    ensures ctx { ctx.new ≡ (spec.unary_done ctx.old width m k loc.now).ctx }
-    ensures stored { result ≡ (spec.unary_done ctx.old width m k loc.now).stored }
+pub(crate) fn unary_done(ctx: &mut Ctx, width: Width, read: u64, op: UnaryOp, loc: &Loc) -> u64
+    ensures ctx { ctx.new ≡ (spec.unary_done ctx.old width read op loc.now).ctx }
+    ensures stored { result ≡ (spec.unary_done ctx.old width read op loc.now).stored }
     ensures fits { result < span width }
 {
-    let a = value_at(ctx, width, m, loc);
-    match k {
-        2 => return operate(ctx, AluOp::Not, width, loc, a, 0),
-        3 => return operate(ctx, AluOp::Neg, width, loc, a, 0),
-        4 => multiply(ctx, false, width, a),
-        5 => multiply(ctx, true, width, a),
-        6 => divide(ctx, false, width, a),
-        _ => divide(ctx, true, width, a),
+    let a = value_at(ctx, width, read, loc);
+    match op {
+        UnaryOp::Not => return operate(ctx, AluOp::Not, width, loc, a, 0),
+        UnaryOp::Neg => return operate(ctx, AluOp::Neg, width, loc, a, 0),
+        UnaryOp::Mul => multiply(ctx, false, width, a),
+        UnaryOp::Imul => multiply(ctx, true, width, a),
+        UnaryOp::Div => divide(ctx, false, width, a),
+        UnaryOp::Idiv => divide(ctx, true, width, a),
     }
     0
 }
 
 /// Whether a division raises #DE.
+#[inline(never)]
 #[tactic(auto, unfolding(crate::specs::Arithmetic::unary_faults))]
-pub(crate) fn unary_faults(ctx: &Ctx, width: Width, m: u64, k: u8, loc: &Loc) -> bool
-    ensures { result ≡ spec.unary_faults ctx.now width m k loc.now }
+pub(crate) fn unary_faults(ctx: &Ctx, width: Width, read: u64, op: UnaryOp, loc: &Loc) -> bool
+    ensures { result ≡ spec.unary_faults ctx.now width read op loc.now }
 {
-    let by = value_at(ctx, width, m, loc);
-    match k {
-        6 => faults_by(ctx, false, width, by),
-        7 => faults_by(ctx, true, width, by),
-        _ => false,
+    let by = value_at(ctx, width, read, loc);
+    match op {
+        UnaryOp::Not | UnaryOp::Neg | UnaryOp::Mul | UnaryOp::Imul => false,
+        UnaryOp::Div => faults_by(ctx, false, width, by),
+        UnaryOp::Idiv => faults_by(ctx, true, width, by),
     }
 }
 
 /// IMUL of a register by an operand.
 #[tactic(auto, unfolding(crate::specs::Arithmetic::imul2_done))]
-pub(crate) fn imul2(ctx: &mut Ctx, width: Width, m: u64, r: u8, loc: &Loc)
-    ensures { ctx.new ≡ spec.imul2_done ctx.old width m r loc.now }
+pub(crate) fn imul2(ctx: &mut Ctx, width: Width, read: u64, r: u8, loc: &Loc)
+    ensures { ctx.new ≡ spec.imul2_done ctx.old width read r loc.now }
 {
-    let a = value_at(ctx, width, m, &Loc::Reg(r));
-    let b = value_at(ctx, width, m, loc);
+    let a = value_at(ctx, width, read, &Loc::Reg(r));
+    let b = value_at(ctx, width, read, loc);
     multiply_to(ctx, width, r, a, b);
 }
 
 /// IMUL of an operand by an immediate into a register.
 #[tactic(auto, unfolding(crate::specs::Arithmetic::imul3_done))]
-pub(crate) fn imul3(ctx: &mut Ctx, width: Width, m: u64, r: u8, loc: &Loc, value: i32)
-    ensures { ctx.new ≡ spec.imul3_done ctx.old width m r loc.now value }
+pub(crate) fn imul3(ctx: &mut Ctx, width: Width, read: u64, r: u8, loc: &Loc, value: i32)
+    ensures { ctx.new ≡ spec.imul3_done ctx.old width read r loc.now value }
 {
-    let a = value_at(ctx, width, m, loc);
+    let a = value_at(ctx, width, read, loc);
     multiply_to(ctx, width, r, a, immediate(width, i64::from(value)));
 }

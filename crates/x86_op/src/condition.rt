@@ -4,36 +4,58 @@ ghost use Rattle.x86_alu.specs.Shift.{differ};
 ghost use Rattle.x86_op.specs.Condition as spec;
 
 use crate::flags::{CF, OF, PF, SF, ZF, is_set};
+use vm_law::Condition;
 
 // Whether one of two is true, and not both.
+#[inline(always)]
 fn differ(a: bool, b: bool) -> bool
     ensures { result ≡ differ a b }
 {
     a != b
 }
 
-// A condition without its lowest bit: O, B, E, BE, S, P, L, LE as 0 to 7.
-#[tactic(auto, unfolding(crate::specs::Condition::tested))]
-fn tested(flags: u64, k: u8) -> bool
-    ensures { result ≡ spec.tested flags k }
+#[inline(always)]
+fn is_below_or_equal(flags: u64) -> bool
+    ensures { result ≡ spec.is_below_or_equal flags }
 {
-    match k {
-        0 => is_set(flags, OF),
-        1 => is_set(flags, CF),
-        2 => is_set(flags, ZF),
-        3 => is_set(flags, CF) || is_set(flags, ZF),
-        4 => is_set(flags, SF),
-        5 => is_set(flags, PF),
-        6 => differ(is_set(flags, SF), is_set(flags, OF)),
-        _ => is_set(flags, ZF) || differ(is_set(flags, SF), is_set(flags, OF)),
-    }
+    is_set(flags, CF) || is_set(flags, ZF)
 }
 
-/// Whether a condition holds: O, NO, B, AE, E, NE, BE, A, S, NS, P, NP, L, GE, LE, G as 0 to 15.
-#[tactic(auto, unfolding(crate::specs::Condition::holds))]
-pub(crate) fn holds(flags: u64, cc: u8) -> bool
-    ensures { result ≡ spec.holds flags cc }
+#[inline(always)]
+fn is_less(flags: u64) -> bool
+    ensures { result ≡ spec.is_less flags }
 {
-    let on = tested(flags, cc / 2);
-    if cc % 2 == 0 { on } else { !on }
+    differ(is_set(flags, SF), is_set(flags, OF))
+}
+
+#[inline(always)]
+fn is_less_or_equal(flags: u64) -> bool
+    ensures { result ≡ spec.is_less_or_equal flags }
+{
+    is_set(flags, ZF) || is_less(flags)
+}
+
+/// Whether a condition holds.
+#[tactic(auto, unfolding(crate::specs::Condition::holds))]
+pub(crate) fn holds(flags: u64, condition: Condition) -> bool
+    ensures { result ≡ spec.holds flags condition }
+{
+    match condition {
+        Condition::O => is_set(flags, OF),
+        Condition::No => !is_set(flags, OF),
+        Condition::B => is_set(flags, CF),
+        Condition::Ae => !is_set(flags, CF),
+        Condition::E => is_set(flags, ZF),
+        Condition::Ne => !is_set(flags, ZF),
+        Condition::Be => is_below_or_equal(flags),
+        Condition::A => !is_below_or_equal(flags),
+        Condition::S => is_set(flags, SF),
+        Condition::Ns => !is_set(flags, SF),
+        Condition::P => is_set(flags, PF),
+        Condition::Np => !is_set(flags, PF),
+        Condition::L => is_less(flags),
+        Condition::Ge => !is_less(flags),
+        Condition::Le => is_less_or_equal(flags),
+        Condition::G => !is_less_or_equal(flags),
+    }
 }

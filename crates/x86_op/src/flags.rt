@@ -17,6 +17,7 @@ pub(crate) const DF: u32 = 10;
 pub(crate) const OF: u32 = 11;
 
 /// Whether a flag is set, by its place.
+#[inline(always)]
 pub(crate) fn is_set(flags: u64, place: u32) -> bool
     requires { place < 64 }
     ensures { result ≡ spec.is_set flags place }
@@ -25,6 +26,7 @@ pub(crate) fn is_set(flags: u64, place: u32) -> bool
 }
 
 /// RFLAGS with the flag at this place set or cleared.
+#[inline(always)]
 pub(crate) fn with_bit(flags: u64, place: u32, on: bool) -> u64
     requires { place < 64 }
     ensures { result ≡ spec.with_bit flags place on }

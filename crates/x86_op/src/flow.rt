@@ -6,7 +6,7 @@ ghost use Rattle.x86_op.specs.Flow as spec;
 use crate::condition::holds;
 use crate::flags::{CF, DF, IF, is_set, with_bit};
 use crate::operand::{register, set_register, source_at};
-use vm_law::{Ctx, Src, Width};
+use vm_law::{Condition, Ctx, Src, Width};
 
 // RSP and RBP.
 pub(crate) const SP: u8 = 4;
@@ -33,10 +33,10 @@ pub(crate) fn jump(ctx: &mut Ctx, by: i32)
 }
 
 #[tactic(auto, unfolding(crate::specs::Flow::jcc_done))]
-pub(crate) fn jcc(ctx: &mut Ctx, cc: u8, by: i32)
-    ensures { ctx.new ≡ spec.jcc_done ctx.old cc by }
+pub(crate) fn jcc(ctx: &mut Ctx, condition: Condition, by: i32)
+    ensures { ctx.new ≡ spec.jcc_done ctx.old condition by }
 {
-    if holds(ctx.rflags, cc) {
+    if holds(ctx.rflags, condition) {
         jump(ctx, by);
     }
 }
@@ -60,22 +60,22 @@ pub(crate) fn top_of(ctx: &Ctx) -> u64
 
 /// PUSH: the old value of RSP where it is the source.
 #[tactic(auto, unfolding(crate::specs::Flow::push_done))]
-pub(crate) fn push(ctx: &mut Ctx, m: u64, src: &Src) -> u64
-    ensures ctx { ctx.new ≡ (spec.push_done ctx.old m src.now).ctx }
-    ensures stored { result ≡ (spec.push_done ctx.old m src.now).stored }
+pub(crate) fn push(ctx: &mut Ctx, read: u64, src: &Src) -> u64
+    ensures ctx { ctx.new ≡ (spec.push_done ctx.old read src.now).ctx }
+    ensures stored { result ≡ (spec.push_done ctx.old read src.now).stored }
 {
-    let value = source_at(ctx, Width::Q, m, src);
+    let value = source_at(ctx, Width::Q, read, src);
     move_stack(ctx, DOWN);
     value
 }
 
 /// POP: RSP takes the popped value where it is the destination.
 #[tactic(auto, unfolding(crate::specs::Flow::pop_done))]
-pub(crate) fn pop(ctx: &mut Ctx, m: u64, r: u8)
-    ensures { ctx.new ≡ spec.pop_done ctx.old m r }
+pub(crate) fn pop(ctx: &mut Ctx, read: u64, r: u8)
+    ensures { ctx.new ≡ spec.pop_done ctx.old read r }
 {
     move_stack(ctx, 8);
-    set_register(ctx, r, m);
+    set_register(ctx, r, read);
 }
 
 #[tactic(auto, unfolding(crate::specs::Flow::call_done))]
@@ -104,21 +104,21 @@ pub(crate) fn call_register(ctx: &mut Ctx, r: u8) -> u64
 
 /// RET, which drops `n` bytes besides.
 #[tactic(auto, unfolding(crate::specs::Flow::ret_done))]
-pub(crate) fn ret(ctx: &mut Ctx, m: u64, n: u16)
-    ensures { ctx.new ≡ spec.ret_done ctx.old m n }
+pub(crate) fn ret(ctx: &mut Ctx, read: u64, n: u16)
+    ensures { ctx.new ≡ spec.ret_done ctx.old read n }
 {
     move_stack(ctx, 8 + u64::from(n));
-    jump_to(ctx, m);
+    jump_to(ctx, read);
 }
 
 /// LEAVE: RSP becomes RBP, from where RBP is popped.
 #[tactic(auto, unfolding(crate::specs::Flow::leave_done))]
-pub(crate) fn leave(ctx: &mut Ctx, m: u64)
-    ensures { ctx.new ≡ spec.leave_done ctx.old m }
+pub(crate) fn leave(ctx: &mut Ctx, read: u64)
+    ensures { ctx.new ≡ spec.leave_done ctx.old read }
 {
     let frame = register(ctx, BP);
     set_register(ctx, SP, frame.wrapping_add(8));
-    set_register(ctx, BP, m);
+    set_register(ctx, BP, read);
 }
 
 /// What POPF and IRETQ write of a value: CF, PF, AF, ZF, SF, IF, DF and OF; bit 1 is always 1, and all others are 0.
@@ -140,11 +140,11 @@ pub(crate) fn pushf(ctx: &mut Ctx) -> u64
 }
 
 #[tactic(auto, unfolding(crate::specs::Done::flagged, crate::specs::Flow::popf_done))]
-pub(crate) fn popf(ctx: &mut Ctx, m: u64)
-    ensures { ctx.new ≡ spec.popf_done ctx.old m }
+pub(crate) fn popf(ctx: &mut Ctx, read: u64)
+    ensures { ctx.new ≡ spec.popf_done ctx.old read }
 {
     move_stack(ctx, 8);
-    ctx.rflags = masked_flags(m);
+    ctx.rflags = masked_flags(read);
 }
 
 #[tactic(auto, unfolding(crate::specs::Done::flagged, crate::specs::Flow::carry_done))]

@@ -21,6 +21,7 @@ mod flow;
 mod moves;
 mod operand;
 mod table;
+mod touch;
 
 pub use access::{Access, Way, access_of, is_local, local_has_no_access};
 pub use address::{address_behind, address_of};

@@ -1,5 +1,5 @@
 //! MOV, MOVZX, MOVSX, LEA, XCHG, CMPXCHG, XADD, BSWAP, SETcc, CMOVcc, CBW and CWD with their wider forms. `ctx` is the
-//! context behind the instruction, and `m` what was read at its operand in memory; an `u64` that is answered is the value
+//! context behind the instruction, and `read` what was read at its operand in memory; an `u64` that is answered is the value
 //! for that operand. Source: Intel SDM volume 2, the pages of the instructions.
 ghost use Rattle.std.specs.Prelude.{◌≡◌, ◌+◌, ◌<◌};
 ghost use Rattle.x86_alu.specs.Operand.{span, is_negative};
@@ -9,7 +9,7 @@ use crate::address::address_of;
 use crate::arithmetic::{compare, operate};
 use crate::condition::holds;
 use crate::operand::{set_value, source_at, truncated, value_at};
-use vm_law::{Ctx, Loc, Mem, Src, Width};
+use vm_law::{Condition, Ctx, Loc, Mem, Src, Width};
 use x86_alu::AluOp;
 
 // The accumulator, and where its sign goes.
@@ -18,11 +18,11 @@ const AX: Loc = Loc::Reg(0);
 const DX: Loc = Loc::Reg(2);
 
 #[tactic(auto, unfolding(crate::specs::Moves::mov_done))]
-pub(crate) fn mov(ctx: &mut Ctx, width: Width, m: u64, loc: &Loc, src: &Src) -> u64
-    ensures ctx { ctx.new ≡ (spec.mov_done ctx.old width m loc.now src.now).ctx }
-    ensures stored { result ≡ (spec.mov_done ctx.old width m loc.now src.now).stored }
+pub(crate) fn mov(ctx: &mut Ctx, width: Width, read: u64, loc: &Loc, src: &Src) -> u64
+    ensures ctx { ctx.new ≡ (spec.mov_done ctx.old width read loc.now src.now).ctx }
+    ensures stored { result ≡ (spec.mov_done ctx.old width read loc.now src.now).stored }
 {
-    let value = source_at(ctx, width, m, src);
+    let value = source_at(ctx, width, read, src);
     set_value(ctx, width, loc, value);
     value
 }
@@ -62,18 +62,18 @@ fn sign_extended(from: Width, to: Width, value: u64) -> u64
 }
 
 #[tactic(auto, unfolding(crate::specs::Moves::movzx_done))]
-pub(crate) fn movzx(ctx: &mut Ctx, width: Width, m: u64, r: u8, from: Width, loc: &Loc)
-    ensures { ctx.new ≡ spec.movzx_done ctx.old width m r from loc.now }
+pub(crate) fn movzx(ctx: &mut Ctx, width: Width, read: u64, r: u8, from: Width, loc: &Loc)
+    ensures { ctx.new ≡ spec.movzx_done ctx.old width read r from loc.now }
 {
-    let value = value_at(ctx, from, m, loc);
+    let value = value_at(ctx, from, read, loc);
     set_value(ctx, width, &Loc::Reg(r), truncated(width, value));
 }
 
 #[tactic(auto, unfolding(crate::specs::Moves::movsx_done))]
-pub(crate) fn movsx(ctx: &mut Ctx, width: Width, m: u64, r: u8, from: Width, loc: &Loc)
-    ensures { ctx.new ≡ spec.movsx_done ctx.old width m r from loc.now }
+pub(crate) fn movsx(ctx: &mut Ctx, width: Width, read: u64, r: u8, from: Width, loc: &Loc)
+    ensures { ctx.new ≡ spec.movsx_done ctx.old width read r from loc.now }
 {
-    let value = value_at(ctx, from, m, loc);
+    let value = value_at(ctx, from, read, loc);
     set_value(ctx, width, &Loc::Reg(r), sign_extended(from, width, value));
 }
 
@@ -88,12 +88,12 @@ pub(crate) fn lea(ctx: &mut Ctx, width: Width, r: u8, mem: &Mem)
 
 /// XCHG: each takes the other's value.
 #[tactic(auto, unfolding(crate::specs::Moves::xchg_done))]
-pub(crate) fn xchg(ctx: &mut Ctx, width: Width, m: u64, a: &Loc, b: &Loc) -> u64
-    ensures ctx { ctx.new ≡ (spec.xchg_done ctx.old width m a.now b.now).ctx }
-    ensures stored { result ≡ (spec.xchg_done ctx.old width m a.now b.now).stored }
+pub(crate) fn xchg(ctx: &mut Ctx, width: Width, read: u64, a: &Loc, b: &Loc) -> u64
+    ensures ctx { ctx.new ≡ (spec.xchg_done ctx.old width read a.now b.now).ctx }
+    ensures stored { result ≡ (spec.xchg_done ctx.old width read a.now b.now).stored }
 {
-    let first = value_at(ctx, width, m, a);
-    let second = value_at(ctx, width, m, b);
+    let first = value_at(ctx, width, read, a);
+    let second = value_at(ctx, width, read, b);
     set_value(ctx, width, a, second);
     set_value(ctx, width, b, first);
     second
@@ -101,22 +101,22 @@ pub(crate) fn xchg(ctx: &mut Ctx, width: Width, m: u64, a: &Loc, b: &Loc) -> u64
 
 /// Whether CMPXCHG's destination holds what the accumulator holds.
 #[tactic(auto, unfolding(crate::specs::Moves::is_equal))]
-pub(crate) fn is_equal(ctx: &Ctx, width: Width, m: u64, a: &Loc) -> bool
-    ensures { result ≡ spec.is_equal ctx.now width m a.now }
+pub(crate) fn is_equal(ctx: &Ctx, width: Width, read: u64, a: &Loc) -> bool
+    ensures { result ≡ spec.is_equal ctx.now width read a.now }
 {
-    value_at(ctx, width, m, &AX) == value_at(ctx, width, m, a)
+    value_at(ctx, width, read, &AX) == value_at(ctx, width, read, a)
 }
 
 /// CMPXCHG: the flags of a CMP of the accumulator with the destination; the destination takes the source where they are
 /// equal, and else the accumulator takes the destination.
 #[tactic(auto, unfolding(crate::specs::Moves::cmpxchg_done, crate::specs::Moves::is_equal))]
-pub(crate) fn cmpxchg(ctx: &mut Ctx, width: Width, m: u64, a: &Loc, b: &Loc) -> u64
-    ensures ctx { ctx.new ≡ (spec.cmpxchg_done ctx.old width m a.now b.now).ctx }
-    ensures stored { result ≡ (spec.cmpxchg_done ctx.old width m a.now b.now).stored }
+pub(crate) fn cmpxchg(ctx: &mut Ctx, width: Width, read: u64, a: &Loc, b: &Loc) -> u64
+    ensures ctx { ctx.new ≡ (spec.cmpxchg_done ctx.old width read a.now b.now).ctx }
+    ensures stored { result ≡ (spec.cmpxchg_done ctx.old width read a.now b.now).stored }
 {
-    let accumulator = value_at(ctx, width, m, &AX);
-    let held = value_at(ctx, width, m, a);
-    let source = value_at(ctx, width, m, b);
+    let accumulator = value_at(ctx, width, read, &AX);
+    let held = value_at(ctx, width, read, a);
+    let source = value_at(ctx, width, read, b);
     compare(ctx, AluOp::Cmp, width, accumulator, held);
     if accumulator == held {
         set_value(ctx, width, a, source);
@@ -129,12 +129,12 @@ pub(crate) fn cmpxchg(ctx: &mut Ctx, width: Width, m: u64, a: &Loc, b: &Loc) -> 
 
 /// XADD: the source takes the destination, and then the destination takes the sum.
 #[tactic(auto, unfolding(crate::specs::Moves::xadd_done))]
-pub(crate) fn xadd(ctx: &mut Ctx, width: Width, m: u64, a: &Loc, b: &Loc) -> u64
-    ensures ctx { ctx.new ≡ (spec.xadd_done ctx.old width m a.now b.now).ctx }
-    ensures stored { result ≡ (spec.xadd_done ctx.old width m a.now b.now).stored }
+pub(crate) fn xadd(ctx: &mut Ctx, width: Width, read: u64, a: &Loc, b: &Loc) -> u64
+    ensures ctx { ctx.new ≡ (spec.xadd_done ctx.old width read a.now b.now).ctx }
+    ensures stored { result ≡ (spec.xadd_done ctx.old width read a.now b.now).stored }
 {
-    let held = value_at(ctx, width, m, a);
-    let source = value_at(ctx, width, m, b);
+    let held = value_at(ctx, width, read, a);
+    let source = value_at(ctx, width, read, b);
     set_value(ctx, width, b, held);
     operate(ctx, AluOp::Add, width, a, held, source)
 }
@@ -163,24 +163,24 @@ pub(crate) fn bswap(ctx: &mut Ctx, width: Width, r: u8)
 }
 
 #[tactic(auto, unfolding(crate::specs::Moves::setcc_done))]
-pub(crate) fn setcc(ctx: &mut Ctx, cc: u8, loc: &Loc) -> u64
-    ensures ctx { ctx.new ≡ (spec.setcc_done ctx.old cc loc.now).ctx }
-    ensures stored { result ≡ (spec.setcc_done ctx.old cc loc.now).stored }
+pub(crate) fn setcc(ctx: &mut Ctx, condition: Condition, loc: &Loc) -> u64
+    ensures ctx { ctx.new ≡ (spec.setcc_done ctx.old condition loc.now).ctx }
+    ensures stored { result ≡ (spec.setcc_done ctx.old condition loc.now).stored }
 {
-    let value = u64::from(holds(ctx.rflags, cc));
+    let value = u64::from(holds(ctx.rflags, condition));
     set_value(ctx, Width::B, loc, value);
     value
 }
 
 /// CMOVcc: where the condition is false the register keeps its value, of which 32 bits clear the upper half.
 #[tactic(auto, unfolding(crate::specs::Moves::cmov_done))]
-pub(crate) fn cmov(ctx: &mut Ctx, width: Width, m: u64, cc: u8, r: u8, loc: &Loc)
-    ensures { ctx.new ≡ spec.cmov_done ctx.old width m cc r loc.now }
+pub(crate) fn cmov(ctx: &mut Ctx, width: Width, read: u64, condition: Condition, r: u8, loc: &Loc)
+    ensures { ctx.new ≡ spec.cmov_done ctx.old width read condition r loc.now }
 {
-    let value = if holds(ctx.rflags, cc) {
-        value_at(ctx, width, m, loc)
+    let value = if holds(ctx.rflags, condition) {
+        value_at(ctx, width, read, loc)
     } else {
-        value_at(ctx, width, m, &Loc::Reg(r))
+        value_at(ctx, width, read, &Loc::Reg(r))
     };
     set_value(ctx, width, &Loc::Reg(r), value);
 }

@@ -7,6 +7,7 @@ ghost use Rattle.x86_op.specs.Operand as spec;
 use vm_law::{Ctx, Loc, Src, Width};
 
 /// The low bits of a number, as many as an operand has.
+#[inline(always)]
 pub fn truncated(width: Width, number: u64) -> u64
     ensures result { result ≡ number % span width }
     ensures fits { result < span width }
@@ -21,6 +22,7 @@ pub fn truncated(width: Width, number: u64) -> u64
 
 /// A general register by its number, 0 to 15. A greater number has no register, and reads as 0.
 /// Source: Intel SDM volume 1, section 3.4.1.
+#[inline(always)]
 #[tactic(auto, unfolding(crate::specs::Operand::register))]
 pub fn register(ctx: &Ctx, r: u8) -> u64
     ensures { result ≡ spec.register ctx.now r }
@@ -30,6 +32,7 @@ pub fn register(ctx: &Ctx, r: u8) -> u64
 
 /// Writes a general register by its number, 0 to 15. With a greater number nothing is written.
 /// Source: Intel SDM volume 1, section 3.4.1.
+#[inline(always)]
 #[tactic(auto, unfolding(crate::specs::Operand::with_register))]
 pub fn set_register(ctx: &mut Ctx, r: u8, value: u64)
     ensures { ctx.new ≡ spec.with_register ctx.old r value }
@@ -40,6 +43,7 @@ pub fn set_register(ctx: &mut Ctx, r: u8, value: u64)
 }
 
 // A register after a result of this width.
+#[inline(always)]
 #[tactic(auto, unfolding(crate::specs::Operand::merged))]
 fn merged(width: Width, old: u64, value: u64) -> u64
     requires { value < span width }
@@ -62,6 +66,7 @@ fn with_second(old: u64, value: u64) -> u64
 }
 
 /// An immediate in two's complement.
+#[inline(always)]
 #[tactic(auto, unfolding(crate::specs::Operand::immediate))]
 pub(crate) fn immediate(width: Width, value: i64) -> u64
     ensures result { result ≡ spec.immediate width value }
@@ -70,28 +75,30 @@ pub(crate) fn immediate(width: Width, value: i64) -> u64
     truncated(width, value.cast_unsigned())
 }
 
-/// The value of an operand of `width`; `m` is what was read at the operand in memory, where it is there.
+/// The value of an operand of `width`; `read` is what was read at the operand in memory, where it is there.
 /// Source: Intel SDM volume 1, section 3.4.1.1.
+#[inline(always)]
 #[tactic(auto, unfolding(crate::specs::Operand::value_at))]
-pub fn value_at(ctx: &Ctx, width: Width, m: u64, loc: &Loc) -> u64
-    ensures result { result ≡ spec.value_at ctx.now width m loc.now }
+pub fn value_at(ctx: &Ctx, width: Width, read: u64, loc: &Loc) -> u64
+    ensures result { result ≡ spec.value_at ctx.now width read loc.now }
     ensures fits { result < span width }
 {
     match *loc {
         Loc::Reg(r) => truncated(width, register(ctx, r)),
         Loc::High(r) => register(ctx, r) / 0x100 % 0x100,
-        Loc::Mem(_) => truncated(width, m),
+        Loc::Mem(_) => truncated(width, read),
     }
 }
 
 /// The value of an operand that is a place or an immediate.
+#[inline(always)]
 #[tactic(auto, unfolding(crate::specs::Operand::source_at))]
-pub(crate) fn source_at(ctx: &Ctx, width: Width, m: u64, src: &Src) -> u64
-    ensures result { result ≡ spec.source_at ctx.now width m src.now }
+pub(crate) fn source_at(ctx: &Ctx, width: Width, read: u64, src: &Src) -> u64
+    ensures result { result ≡ spec.source_at ctx.now width read src.now }
     ensures fits { result < span width }
 {
     match src {
-        Src::Loc(loc) => value_at(ctx, width, m, loc),
+        Src::Loc(loc) => value_at(ctx, width, read, loc),
         Src::Imm(value) => immediate(width, *value),
     }
 }
@@ -99,6 +106,7 @@ pub(crate) fn source_at(ctx: &Ctx, width: Width, m: u64, src: &Src) -> u64
 /// Writes a result of `width` into its register: 32 bits clear the upper half, 8 and 16 bits leave the rest, and a result
 /// for AH, CH, DH or BH goes to bits 8 to 15. One for memory is for the caller to store, and changes nothing here.
 /// Source: Intel SDM volume 1, section 3.4.1.1.
+#[inline(always)]
 #[tactic(auto, unfolding(crate::specs::Operand::with_value))]
 pub fn set_value(ctx: &mut Ctx, width: Width, loc: &Loc, value: u64)
     requires { value < span width }
@@ -140,6 +148,7 @@ pub(crate) fn set_pair(ctx: &mut Ctx, width: Width, lower: u64, upper: u64)
 }
 
 /// Goes behind an instruction of `len` bytes, and holds no interrupt off.
+#[inline(always)]
 #[tactic(auto, unfolding(crate::specs::Operand::passed))]
 pub fn pass(ctx: &mut Ctx, len: u8)
     ensures { ctx.new ≡ spec.passed ctx.old len }

@@ -1,8 +1,10 @@
 //! What each instruction computes.
 ghost use Rattle.std.specs.Prelude.{◌≡◌, IsTrue, not, if◌then◌else◌};
+ghost use Rattle.x86_alu.specs.Flags.{carry_of};
 ghost use Rattle.x86_op.specs.Access.{is_local};
-ghost use Rattle.x86_op.specs.Operand.{value_at};
-ghost use Rattle.x86_op.specs.Arithmetic.{operated};
+ghost use Rattle.x86_op.specs.Operand.{value_at, source_at};
+ghost use Rattle.x86_op.specs.Arithmetic.{operated, compared};
+ghost use Rattle.x86_op.specs.Flow.{jumped_to, carry_done};
 ghost use Rattle.x86_op.specs.Table as spec;
 
 use crate::arithmetic::{alu_done, compare, imul2, imul3, operate, unary_done, unary_faults};
@@ -16,143 +18,140 @@ use crate::moves::{
     bswap, cmov, cmpxchg, is_equal, lea, mov, movsx, movzx, setcc, sign_fill, widen, xadd, xchg,
 };
 use crate::operand::{pass, source_at, value_at};
-use vm_law::{Ctx, Insn, Loc, Op, Width};
+use vm_law::{Ctx, Insn, Loc, Op, Src, Width};
 use x86_alu::{AluOp, BitOp};
 
-// The stack, jumps, and instructions on flags alone.
-#[tactic(auto, unfolding(crate::specs::Table::flow_done))]
-fn flow_done(ctx: &mut Ctx, op: &Op, width: Width, m: u64) -> u64
-    ensures ctx { ctx.new ≡ (spec.flow_done ctx.old width op.now m).ctx }
-    ensures stored { result ≡ (spec.flow_done ctx.old width op.now m).stored }
+// INC and DEC.
+#[inline(always)]
+fn step(ctx: &mut Ctx, op: AluOp, width: Width, read: u64, loc: &Loc) -> u64
+    ensures ctx { ctx.new ≡ (operated ctx.old op width loc.now (value_at ctx.old width read loc.now) 0).ctx }
+    ensures stored { result ≡ (operated ctx.old op width loc.now (value_at ctx.old width read loc.now) 0).stored }
+{
+    let a = value_at(ctx, width, read, loc);
+    operate(ctx, op, width, loc, a, 0)
+}
+
+#[inline(always)]
+fn test(ctx: &mut Ctx, width: Width, read: u64, loc: &Loc, src: &Src)
+    ensures { ctx.new ≡ compared ctx.old AluOp.Test width (value_at ctx.old width read loc.now) (source_at ctx.old width read src.now) }
+{
+    let a = value_at(ctx, width, read, loc);
+    let b = source_at(ctx, width, read, src);
+    compare(ctx, AluOp::Test, width, a, b);
+}
+
+#[inline(always)]
+fn jump_to_value(ctx: &mut Ctx, read: u64, loc: &Loc)
+    ensures { ctx.new ≡ jumped_to ctx.old (value_at ctx.old Width.Q read loc.now) }
+{
+    let target = value_at(ctx, Width::Q, read, loc);
+    jump_to(ctx, target);
+}
+
+#[inline(always)]
+fn complement_carry(ctx: &mut Ctx)
+    ensures { ctx.new ≡ carry_done ctx.old (not (carry_of ctx.old.rflags)) }
+{
+    let on = !is_set(ctx.rflags, CF);
+    set_carry(ctx, on);
+}
+
+// What an operation computes, by its line of the table. Those that answer a value have one for their operand in memory.
+#[inline(always)]
+#[tactic(auto, unfolding(crate::specs::Table::line))]
+fn done(ctx: &mut Ctx, op: &Op, width: Width, read: u64) -> u64
+    ensures ctx { ctx.new ≡ ((spec.line width op.now).done ctx.old read).ctx }
+    ensures stored { result ≡ ((spec.line width op.now).done ctx.old read).stored }
 {
     match op {
+        Op::Alu(op, loc, src) => return alu_done(ctx, width, read, *op, loc, src),
+        Op::Unary(op, loc) => return unary_done(ctx, width, read, *op, loc),
+        Op::Inc(loc) => return step(ctx, AluOp::Inc, width, read, loc),
+        Op::Dec(loc) => return step(ctx, AluOp::Dec, width, read, loc),
+        Op::Mov(loc, src) => return mov(ctx, width, read, loc, src),
+        Op::Xchg(a, b) => return xchg(ctx, width, read, a, b),
+        Op::CmpXchg(a, b) => return cmpxchg(ctx, width, read, a, b),
+        Op::Xadd(a, b) => return xadd(ctx, width, read, a, b),
+        Op::Shift(op, loc, count) => return shift(ctx, width, read, *op, loc, *count),
+        Op::Bit(op, loc, src) => return bit(ctx, width, read, *op, loc, src),
+        Op::SetCc(condition, loc) => return setcc(ctx, *condition, loc),
         Op::Call(by) => return call(ctx, *by),
         Op::CallReg(r) => return call_register(ctx, *r),
-        Op::Push(src) => return push(ctx, m, src),
+        Op::Push(src) => return push(ctx, read, src),
         Op::PushF => return pushf(ctx),
-        Op::Jcc(cc, by) => jcc(ctx, *cc, *by),
+        Op::Test(loc, src) => test(ctx, width, read, loc, src),
+        Op::Imul2(r, loc) => imul2(ctx, width, read, *r, loc),
+        Op::Imul3(r, loc, value) => imul3(ctx, width, read, *r, loc, *value),
+        Op::MovZx(r, from, loc) => movzx(ctx, width, read, *r, *from, loc),
+        Op::MovSx(r, from, loc) => movsx(ctx, width, read, *r, *from, loc),
+        Op::Lea(r, mem) => lea(ctx, width, *r, mem),
+        Op::Bsf(r, loc) => scan(ctx, BitOp::Bsf, width, read, *r, loc),
+        Op::Bsr(r, loc) => scan(ctx, BitOp::Bsr, width, read, *r, loc),
+        Op::Bswap(r) => bswap(ctx, width, *r),
+        Op::CMov(condition, r, loc) => cmov(ctx, width, read, *condition, *r, loc),
+        Op::Widen => widen(ctx, width),
+        Op::SignFill => sign_fill(ctx, width),
+        Op::Jcc(condition, by) => jcc(ctx, *condition, *by),
         Op::Jmp(by) => jump(ctx, *by),
-        Op::JmpTo(loc) => {
-            let target = value_at(ctx, Width::Q, m, loc);
-            jump_to(ctx, target);
-        }
-        Op::Ret(n) => ret(ctx, m, *n),
-        Op::Pop(r) => pop(ctx, m, *r),
-        Op::Leave => leave(ctx, m),
-        Op::PopF => popf(ctx, m),
+        Op::JmpTo(loc) => jump_to_value(ctx, read, loc),
+        Op::Ret(n) => ret(ctx, read, *n),
+        Op::Pop(r) => pop(ctx, read, *r),
+        Op::Leave => leave(ctx, read),
+        Op::PopF => popf(ctx, read),
         Op::Clc => set_carry(ctx, false),
         Op::Stc => set_carry(ctx, true),
-        Op::Cmc => {
-            let on = !is_set(ctx.rflags, CF);
-            set_carry(ctx, on);
-        }
+        Op::Cmc => complement_carry(ctx),
         Op::Cld => set_direction(ctx, false),
         Op::Std => set_direction(ctx, true),
         Op::Sti => sti(ctx),
         Op::Cli => cli(ctx),
-        _ => {}
-    }
-    0
-}
-
-// Moves and what is like them; the rest goes on to the next group.
-#[tactic(auto, unfolding(crate::specs::Table::moves_done))]
-fn moves_done(ctx: &mut Ctx, op: &Op, width: Width, m: u64) -> u64
-    ensures ctx { ctx.new ≡ (spec.moves_done ctx.old width op.now m).ctx }
-    ensures stored { result ≡ (spec.moves_done ctx.old width op.now m).stored }
-{
-    match op {
-        Op::Mov(loc, src) => return mov(ctx, width, m, loc, src),
-        Op::Xchg(a, b) => return xchg(ctx, width, m, a, b),
-        Op::CmpXchg(a, b) => return cmpxchg(ctx, width, m, a, b),
-        Op::Xadd(a, b) => return xadd(ctx, width, m, a, b),
-        Op::SetCc(cc, loc) => return setcc(ctx, *cc, loc),
-        Op::MovZx(r, from, loc) => movzx(ctx, width, m, *r, *from, loc),
-        Op::MovSx(r, from, loc) => movsx(ctx, width, m, *r, *from, loc),
-        Op::Lea(r, mem) => lea(ctx, width, *r, mem),
-        Op::Bswap(r) => bswap(ctx, width, *r),
-        Op::CMov(cc, r, loc) => cmov(ctx, width, m, *cc, *r, loc),
-        Op::Widen => widen(ctx, width),
-        Op::SignFill => sign_fill(ctx, width),
-        _ => return flow_done(ctx, op, width, m),
-    }
-    0
-}
-
-// INC and DEC.
-fn step(ctx: &mut Ctx, op: AluOp, width: Width, m: u64, loc: &Loc) -> u64
-    ensures ctx { ctx.new ≡ (operated ctx.old op width loc.now (value_at ctx.old width m loc.now) 0).ctx }
-    ensures stored { result ≡ (operated ctx.old op width loc.now (value_at ctx.old width m loc.now) 0).stored }
-{
-    let a = value_at(ctx, width, m, loc);
-    operate(ctx, op, width, loc, a, 0)
-}
-
-// Arithmetic and bits; the rest goes on to the next group.
-#[tactic(auto, unfolding(crate::specs::Table::done_op))]
-fn done_op(ctx: &mut Ctx, op: &Op, width: Width, m: u64) -> u64
-    ensures ctx { ctx.new ≡ (spec.done_op ctx.old width op.now m).ctx }
-    ensures stored { result ≡ (spec.done_op ctx.old width op.now m).stored }
-{
-    match op {
-        Op::Alu(k, loc, src) => return alu_done(ctx, width, m, *k, loc, src),
-        Op::Unary(k, loc) => return unary_done(ctx, width, m, *k, loc),
-        Op::Inc(loc) => return step(ctx, AluOp::Inc, width, m, loc),
-        Op::Dec(loc) => return step(ctx, AluOp::Dec, width, m, loc),
-        Op::Shift(k, loc, count) => return shift(ctx, width, m, *k, loc, *count),
-        Op::Bit(k, loc, src) => return bit(ctx, width, m, *k, loc, src),
-        Op::Test(loc, src) => {
-            let a = value_at(ctx, width, m, loc);
-            let b = source_at(ctx, width, m, src);
-            compare(ctx, AluOp::Test, width, a, b);
-        }
-        Op::Imul2(r, loc) => imul2(ctx, width, m, *r, loc),
-        Op::Imul3(r, loc, value) => imul3(ctx, width, m, *r, loc, *value),
-        Op::Bsf(r, loc) => scan(ctx, BitOp::Bsf, width, m, *r, loc),
-        Op::Bsr(r, loc) => scan(ctx, BitOp::Bsr, width, m, *r, loc),
-        _ => return moves_done(ctx, op, width, m),
+        Op::In(_) | Op::Out(_) | Op::Int(_) | Op::Iret | Op::Ud2 | Op::Lidt(_) | Op::Hlt => {}
+        Op::Nop(_) | Op::Pause | Op::Endbr | Op::Fence(_) => {}
     }
     0
 }
 
 /// What an instruction of `len` bytes computes: registers and flags after it, in `ctx`, and the value for its operand in
-/// memory, which is answered where it stores one. `m` is what was read at that operand or from the stack.
+/// memory, which is answered where it stores one. `read` is what was read at that operand or from the stack.
 ///
 /// NOP, PAUSE, ENDBR64, fences, and what isn't computed here, IN, OUT, INT, IRETQ, UD2, LIDT and HLT, only pass. A division
 /// that can't be done does so too: ask [`faults`] first. Source: Intel SDM volume 2.
-pub fn compute(ctx: &mut Ctx, insn: &Insn, len: u8, m: u64) -> u64
-    ensures ctx { ctx.new ≡ (spec.computed ctx.old insn.now len m).ctx }
-    ensures stored { result ≡ (spec.computed ctx.old insn.now len m).stored }
+#[inline(always)]
+pub fn compute(ctx: &mut Ctx, insn: &Insn, len: u8, read: u64) -> u64
+    ensures ctx { ctx.new ≡ (spec.computed ctx.old insn.now len read).ctx }
+    ensures stored { result ≡ (spec.computed ctx.old insn.now len read).stored }
 {
     pass(ctx, len);
-    done_op(ctx, &insn.op, insn.width, m)
+    done(ctx, &insn.op, insn.width, read)
 }
 
 /// Whether an instruction raises #DE: a division by 0, or one whose quotient doesn't fit. `ctx` is the context before it.
 /// Source: Intel SDM volume 2, DIV and IDIV.
-#[tactic(auto, unfolding(crate::specs::Table::op_faults))]
-pub fn faults(ctx: &Ctx, insn: &Insn, m: u64) -> bool
-    ensures { result ≡ spec.faults ctx.now insn.now m }
+#[inline(always)]
+#[tactic(auto, unfolding(crate::specs::Table::line))]
+pub fn faults(ctx: &Ctx, insn: &Insn, read: u64) -> bool
+    ensures { result ≡ spec.faults ctx.now insn.now read }
 {
     match &insn.op {
-        Op::Unary(k, loc) => unary_faults(ctx, insn.width, m, *k, loc),
+        Op::Unary(op, loc) => unary_faults(ctx, insn.width, read, *op, loc),
         _ => false,
     }
 }
 
 /// Whether an instruction is a CMPXCHG whose destination holds what the accumulator holds, so that it is written.
 /// Source: Intel SDM volume 2, CMPXCHG.
-#[tactic(auto, unfolding(crate::specs::Table::matches_op))]
-pub fn matches_accumulator(ctx: &Ctx, insn: &Insn, m: u64) -> bool
-    ensures { result ≡ spec.matches_accumulator ctx.now insn.now m }
+#[tactic(auto, unfolding(crate::specs::Table::line))]
+pub fn matches_accumulator(ctx: &Ctx, insn: &Insn, read: u64) -> bool
+    ensures { result ≡ spec.matches_accumulator ctx.now insn.now read }
 {
     match &insn.op {
-        Op::CmpXchg(a, _) => is_equal(ctx, insn.width, m, a),
+        Op::CmpXchg(a, _) => is_equal(ctx, insn.width, read, a),
         _ => false,
     }
 }
 
 /// Runs a local instruction of `len` bytes. `false` is #DE, which leaves the context.
+#[inline(always)]
 pub fn run_local(ctx: &mut Ctx, insn: &Insn, len: u8) -> bool
     requires { IsTrue (is_local insn.now) }
     ensures answer { result ≡ not (spec.faults ctx.old insn.now 0) }

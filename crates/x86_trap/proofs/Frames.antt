@@ -14,10 +14,10 @@ unfolding frame_of
 frame_behind c (Some e) = refl
 frame_behind c None = refl
 
-pub size_written : (m : Memory) (at : ℕ) (piece : List ℕ) → at + length piece ≤ length m.bytes → length (written m at piece).bytes ≡ length m.bytes
-size_written m at piece inside = grind (arith, common_steps)
+pub size_written : (mem : Memory) (at : ℕ) (piece : List ℕ) → at + length piece ≤ length mem.bytes → length (written mem at piece).bytes ≡ length mem.bytes
+size_written mem at piece inside = grind (arith, common_steps)
 
-pub code_written : (m : Memory) (at : ℕ) (piece : List ℕ) → m.code ≤ at → at + length piece ≤ length m.bytes → code_of (written m at piece) ≡ code_of m
-code_written m at piece above inside = grind (arith, common_steps)
+pub code_written : (mem : Memory) (at : ℕ) (piece : List ℕ) → mem.code ≤ at → at + length piece ≤ length mem.bytes → code_of (written mem at piece) ≡ code_of mem
+code_written mem at piece above inside = grind (arith, common_steps)
 
 pub ruleset writes = (size_written, code_written)

@@ -7,7 +7,7 @@ use Rattle.vm_law.specs.declared.context.Ctx.{Ctx}
 use Rattle.vm_law.specs.Memory.{Memory}
 use Rattle.vm_bus.specs.declared.area.Area.{Area}
 use Rattle.vm_bus.specs.declared.area.Area.TheVariants as area
-use Rattle.x86_trap.specs.Gate.{area_in}
+use Rattle.vm_bus.specs.Area.{area_in}
 
 -- the selectors, which are the same in every context, since segments are not modelled
 abbrev pub cs : ℕ
@@ -16,8 +16,12 @@ cs = 0x08
 abbrev pub ss : ℕ
 ss = 0x10
 
+-- RSP by its number among the registers
+abbrev pub RSP : ℕ
+RSP = 4
+
 abbrev pub rsp_of : Ctx → ℕ
-rsp_of c = slice_index c.regs 4
+rsp_of c = slice_index c.regs RSP
 
 -- from its lowest address up
 abbrev pub frame_words : Ctx → Option ℕ → List ℕ
@@ -37,4 +41,4 @@ is_ram x = false
 
 -- whether the frame is in RAM above the code
 unfoldable pub has_room : Ctx → Memory → Option ℕ → Bool
-has_room c m error = is_ram (area_in m (frame_address c error) (8 * length (frame_words c error)))
+has_room c mem error = is_ram (area_in mem (frame_address c error) (8 * length (frame_words c error)))

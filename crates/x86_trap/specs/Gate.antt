@@ -1,4 +1,4 @@
--- The gate of a vector in the interrupt descriptor table. c is the vCPU's context and m is memory.
+-- The gate of a vector in the interrupt descriptor table. c is the vCPU's context and mem is memory.
 -- Source: Intel SDM volume 3, sections 6.10, 6.11 and 6.14.1 (gates of 64-bit mode).
 use Rattle.std.specs.Prelude.{ℕ, ◌+◌, ◌*◌, ◌%◌, ◌^◌, List, length, drop, slice_index, Bool, true, false, ◌&&◌, ◌==◌, nat_le, Option, Some, None, if◌then◌else◌}
 use Rattle.std.specs.Option.{option_map}
@@ -8,7 +8,7 @@ use Rattle.vm_law.specs.declared.context.Ctx.{Ctx}
 use Rattle.vm_law.specs.Memory.{Memory, read_of}
 use Rattle.vm_bus.specs.declared.area.Area.{Area}
 use Rattle.vm_bus.specs.declared.area.Area.TheVariants as area
-use Rattle.vm_bus.specs.Area.{area_of}
+use Rattle.vm_bus.specs.Area.{area_in}
 use Rattle.x86_trap.specs.declared.gate.Gate.{Gate}
 use Rattle.x86_trap.specs.declared.gate.GateKind.{GateKind}
 use Rattle.x86_trap.specs.declared.gate.GateKind.TheVariants.{Interrupt, Trap}
@@ -16,10 +16,6 @@ use Rattle.x86_trap.specs.declared.gate.GateKind.TheVariants.{Interrupt, Trap}
 -- each gate has 16 bytes
 abbrev pub gate_address : Ctx → ℕ → ℕ
 gate_address c v = (c.idt_base + 16 * v) % 2 ^ 64
-
--- what stands at a range of addresses
-abbrev pub area_in : Memory → ℕ → ℕ → Area
-area_in m at len = area_of at len m.code (length m.bytes)
 
 -- RAM, with or without code
 abbrev pub is_memory : Area → Bool
@@ -29,7 +25,7 @@ is_memory x = false
 
 -- the gate ends by the table's limit, which is the offset of its last byte, and is in memory
 abbrev pub has_gate : Ctx → Memory → ℕ → Bool
-has_gate c m v = nat_le (16 * v + 15) c.idt_limit && is_memory (area_in m (gate_address c v) 16)
+has_gate c mem v = nat_le (16 * v + 15) c.idt_limit && is_memory (area_in mem (gate_address c v) 16)
 
 -- byte 5: bit 7 (present) is set, and bits 4 to 0 are the type; bits 6 and 5 (the privilege level) may be any
 abbrev pub kind_of : ℕ → Option GateKind
@@ -50,4 +46,4 @@ gate_in bytes =
     else None
 
 unfoldable pub gate_of : Ctx → Memory → ℕ → Option Gate
-gate_of c m v = if has_gate c m v then gate_in (read_of m (gate_address c v) 16) else None
+gate_of c mem v = if has_gate c mem v then gate_in (read_of mem (gate_address c v) 16) else None

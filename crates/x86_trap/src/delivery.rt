@@ -1,5 +1,5 @@
-ghost use Rattle.std.specs.Prelude.{◌≡◌, length, OnErr};
-ghost use Rattle.vm_law.specs.Memory.{code_of};
+ghost use Rattle.std.specs.Prelude.{◌≡◌, ◌≤◌, ◌+◌, OnErr};
+ghost use Rattle.vm_law.specs.Memory.{KeepsCode};
 ghost use Rattle.x86_trap.specs.Delivery as spec;
 
 use crate::frame::push_frame;
@@ -16,6 +16,8 @@ const IF: u64 = 0x200;
 /// It is `Stop::Gate` where the IDT has no good gate of the vector in memory, else `Stop::Frame` where the frame isn't
 /// all in RAM above the code. At a Stop context and memory are as before.
 ///
+/// There is to be room for two pages of memory; as much is taken at most.
+///
 /// Source: Intel SDM volume 3, sections 6.10 to 6.14.
 #[tactic(auto, unfolding(crate::specs::Delivery::delivered, crate::specs::Delivery::through))]
 pub fn deliver<B: Bytes>(
@@ -25,12 +27,13 @@ pub fn deliver<B: Bytes>(
     error: Option<u64>,
     nmi: bool,
 ) -> Result<(), Stop>
+    requires room { 2 ≤ B.spare bytes.old }
     ensures answer { result ≡ (spec.delivered ctx.old (B.memory bytes.old) vector error nmi).answer }
     ensures ctx { ctx.new ≡ (spec.delivered ctx.old (B.memory bytes.old) vector error nmi).ctx }
     ensures memory { B.memory bytes.new ≡ (spec.delivered ctx.old (B.memory bytes.old) vector error nmi).memory }
     ensures kept { OnErr result ((ctx.new ≡ ctx.old) × (B.memory bytes.new ≡ B.memory bytes.old)) }
-    ensures code { code_of (B.memory bytes.new) ≡ code_of (B.memory bytes.old) }
-    ensures size { length (B.memory bytes.new).bytes ≡ length (B.memory bytes.old).bytes }
+    ensures code { KeepsCode (B.memory bytes.old) (B.memory bytes.new) }
+    ensures room { B.spare bytes.old ≤ B.spare bytes.new + 2 }
 {
     let Some(gate) = gate_of(ctx, bytes, vector) else {
         return Err(Stop::Gate(vector));

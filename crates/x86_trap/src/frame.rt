@@ -1,7 +1,7 @@
 ghost use Rattle.std.specs.Prelude.{◌≡◌, ◌<◌, ◌≤◌, ◌+◌, ◌*◌, [], ◌∷◌, Some, None, length, drop, is_some, unwrap_or, if◌then◌else◌};
 ghost use Rattle.std.specs.List.{flat_map};
 ghost use Rattle.byteorder.specs.Endian.{little_bytes};
-ghost use Rattle.vm_law.specs.Memory.{written, code_of};
+ghost use Rattle.vm_law.specs.Memory.{written, KeepsCode};
 ghost use Rattle.x86_trap.specs.Frame as spec;
 
 use byteorder::{ByteOrder, LittleEndian};
@@ -17,14 +17,15 @@ const SS: u64 = 0x10;
 /// `None` and pushes nothing.
 #[tactic(auto, unfolding(crate::specs::Frame::has_room, crate::specs::Frame::frame_address), using(crate::proofs::Frames::writes))]
 pub(crate) fn push_frame<B: Bytes>(ctx: &Ctx, bytes: &mut B, error: Option<u64>) -> Option<u64>
+    requires room { 2 ≤ B.spare bytes.old }
     ensures at { result
         ≡ (if spec.has_room ctx.now (B.memory bytes.old) error then Some (spec.frame_address ctx.now error) else None) }
     ensures memory { B.memory bytes.new
         ≡ (if spec.has_room ctx.now (B.memory bytes.old) error
         then written (B.memory bytes.old) (spec.frame_address ctx.now error) (spec.frame_of ctx.now error)
         else B.memory bytes.old) }
-    ensures code { code_of (B.memory bytes.new) ≡ code_of (B.memory bytes.old) }
-    ensures size { length (B.memory bytes.new).bytes ≡ length (B.memory bytes.old).bytes }
+    ensures kept { KeepsCode (B.memory bytes.old) (B.memory bytes.new) }
+    ensures room { B.spare bytes.old ≤ B.spare bytes.new + 2 }
 {
     let rsp = ctx.regs[4];
     let front = front_of(error);

@@ -59,6 +59,7 @@ fn plan_of(alloc: Global) -> Plan
 }
 
 /// MOV EDX, 3F8; MOV AL, 41; OUT DX, AL; HLT.
+#[tactic(auto, unfolding(vm_machine::specs::Script::may_follow, vm_machine::specs::Script::may_stand))]
 fn one_byte(alloc: Global) -> Result<Start, OutOfMemory>
     ensures { IfOk result IsSound }
 {
@@ -118,5 +119,16 @@ fn a_history_gives_its_run(rt: HostRuntime) -> Result<(), Fail> {
         }
         Err(_) => assert!(rt; false),
     }
+    Ok(())
+}
+
+/// The run before the first bad entry, which is the second OUT, stands with the place.
+#[test]
+fn the_front_of_a_history_is_kept(rt: HostRuntime) -> Result<(), Fail> {
+    let journal = journal_of(rt.alloc(), &[0, 1, 2, 3, 3, 3])?;
+    let replayed = replay_front(rt.alloc(), &one_byte(rt.alloc())?, &journal)?;
+    assert_eq!(rt; replayed.bad, Some(5));
+    assert_eq!(rt; replayed.run.console(), b"A".as_slice());
+    assert_eq!(rt; replayed.run.executed(), 4);
     Ok(())
 }

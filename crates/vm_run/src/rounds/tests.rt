@@ -83,6 +83,7 @@ const USED_UP: &[Added] = &[
 
 const STOPS: &[Added] = &[CLAIM, ENTER, STEP, EXIT, GIVEN_UP, CLOSE];
 
+#[tactic(auto, unfolding(vm_machine::specs::Script::may_follow, vm_machine::specs::Script::may_stand))]
 fn start_of(alloc: Global, code: &[u8], limit: u64) -> Result<Start, OutOfMemory>
     requires some_code { 1 ≤ length code.now }
     requires code { length code.now ≤ 4096 }

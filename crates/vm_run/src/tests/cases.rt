@@ -238,8 +238,8 @@ fn first_other<R: Threads + Wait + Sync>(
     Ok(None)
 }
 
-/// A run without a journal. The image is read by calls 0 and 1.
-const SOLOS: [Case<'static>; 8] = [
+/// A run without a journal. The image is read by calls 0 to 2.
+const SOLOS: [Case<'static>; 9] = [
     SOLO,
     Case {
         host_fails: 0,
@@ -257,6 +257,13 @@ const SOLOS: [Case<'static>; 8] = [
     },
     Case {
         host_fails: 2,
+        status: 6,
+        kept: None,
+        taken: b"",
+        ..SOLO
+    },
+    Case {
+        host_fails: 3,
         ..SOLO
     },
     Case {
@@ -313,8 +320,8 @@ const CONSOLES: [Case<'static>; 3] = [
     },
 ];
 
-/// A run with a journal. Its file is made by call 2, and then written and synced three times.
-const KEPT_SOLOS: [Case<'static>; 14] = [
+/// A run with a journal. Its file is made by call 3, and then written and synced three times.
+const KEPT_SOLOS: [Case<'static>; 16] = [
     KEPT_SOLO,
     Case {
         journal: Some(b"an older file"),
@@ -329,21 +336,15 @@ const KEPT_SOLOS: [Case<'static>; 14] = [
         ..KEPT_SOLO
     },
     Case {
-        host_fails: 2,
+        host_fails: 3,
         status: 6,
         saved: None,
         ..KEPT_SOLO
     },
     Case {
-        host_fails: 3,
-        status: 6,
-        saved: Some(b""),
-        ..KEPT_SOLO
-    },
-    Case {
         host_fails: 4,
         status: 6,
-        saved: Some(b"\0"),
+        saved: Some(b""),
         ..KEPT_SOLO
     },
     Case {
@@ -355,7 +356,7 @@ const KEPT_SOLOS: [Case<'static>; 14] = [
     Case {
         host_fails: 6,
         status: 6,
-        saved: Some(SHUT),
+        saved: Some(b"\0"),
         ..KEPT_SOLO
     },
     Case {
@@ -367,10 +368,16 @@ const KEPT_SOLOS: [Case<'static>; 14] = [
     Case {
         host_fails: 8,
         status: 6,
+        saved: Some(SHUT),
         ..KEPT_SOLO
     },
     Case {
         host_fails: 9,
+        status: 6,
+        ..KEPT_SOLO
+    },
+    Case {
+        host_fails: 10,
         ..KEPT_SOLO
     },
     Case {
@@ -382,7 +389,7 @@ const KEPT_SOLOS: [Case<'static>; 14] = [
         ..KEPT_SOLO
     },
     Case {
-        host_fails: 2,
+        host_fails: 3,
         console_fails: 0,
         status: 9,
         kept: Some(BROKEN),
@@ -398,22 +405,33 @@ const KEPT_SOLOS: [Case<'static>; 14] = [
         saved: None,
         ..KEPT_SOLO
     },
+    // A file that is named twice is read before that is judged, and no file is made where nothing is run.
+    Case {
+        words: &["solo", "none", "--journal", "none"],
+        status: 7,
+        kept: None,
+        taken: b"",
+        saved: None,
+        ..KEPT_SOLO
+    },
+    Case {
+        image: &[],
+        journal: Some(b"an older file"),
+        status: 3,
+        kept: None,
+        taken: b"",
+        saved: Some(b"an older file"),
+        ..KEPT_SOLO
+    },
 ];
 
-/// Replays. The journal is read by calls 2 and 3.
-const REPLAYS: [Case<'static>; 14] = [
+/// Replays. The journal is read by calls 3 to 5.
+const REPLAYS: [Case<'static>; 16] = [
     REPLAY,
     Case {
         host_fails: 1,
         status: 6,
         kept: None,
-        taken: b"",
-        ..REPLAY
-    },
-    Case {
-        host_fails: 2,
-        status: 6,
-        kept: Some(&[]),
         taken: b"",
         ..REPLAY
     },
@@ -426,6 +444,20 @@ const REPLAYS: [Case<'static>; 14] = [
     },
     Case {
         host_fails: 4,
+        status: 6,
+        kept: Some(&[]),
+        taken: b"",
+        ..REPLAY
+    },
+    Case {
+        host_fails: 5,
+        status: 6,
+        kept: Some(&[]),
+        taken: b"",
+        ..REPLAY
+    },
+    Case {
+        host_fails: 6,
         ..REPLAY
     },
     Case {
@@ -486,6 +518,13 @@ const REPLAYS: [Case<'static>; 14] = [
         ..REPLAY
     },
     Case {
+        words: &["replay", "a.img", "a.img"],
+        status: 3,
+        kept: None,
+        taken: b"",
+        ..REPLAY
+    },
+    Case {
         words: &["replay", "j", "j"],
         status: 3,
         kept: None,
@@ -535,15 +574,13 @@ fn a_journal_that_is_cut_is_refused(rt: HostRuntime) -> Result<(), Fail> {
     Ok(())
 }
 
-/// An image of 9,033 bytes is read by four calls: three pieces, of which the last is short, and the end.
+/// An image of 140,033 bytes is read by five calls: its length, three pieces, of which the last is short, and the end.
 #[test]
 fn a_long_image_may_fail_at_each_piece(rt: HostRuntime) -> Result<(), Fail> {
     let mut long = Vec::new(rt.alloc());
     long.extend_from_slice(IMAGE)?;
-    for _ in 0..9000 {
-        long.push(0)?;
-    }
-    for call in 0..4 {
+    long.resize(140_033, 0)?;
+    for call in 0..5 {
         let case = Case {
             image: &long,
             host_fails: call,
@@ -556,7 +593,7 @@ fn a_long_image_may_fail_at_each_piece(rt: HostRuntime) -> Result<(), Fail> {
     }
     let case = Case {
         image: &long,
-        host_fails: 4,
+        host_fails: 5,
         ..SOLO
     };
     assert!(rt; passes(&rt, rt.alloc(), &case)?);

@@ -1,7 +1,7 @@
 use Rattle.std.proofs.Common.{◌≡◌, ◌++◌, ◌∙◌, sym, subst, List, ℕ}
 use Rattle.std.specs.Prelude.{option_map}
 use Rattle.ctl_script.specs.Numeral.{hex_bytes}
-use Rattle.ctl_script.proofs.Numerals.{pair_more}
+use Rattle.ctl_script.proofs.Pairs.{pair_more}
 use Rattle.ctl_script.proofs.numeral.hex_bytes.Goals as goal
 
 pub loop-pair-preserved : goal.loop-pair-preserved

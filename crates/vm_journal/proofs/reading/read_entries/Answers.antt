@@ -1,7 +1,7 @@
 use Rattle.std.proofs.lemmas.Result.{err_from_is_err_and}
-use Rattle.vm_law.specs.Reader.{times}
+use Rattle.byte_reader.specs.Reader.{times}
 use Rattle.vm_journal.specs.Reading.{signed_at}
-use Rattle.vm_journal.proofs.Repeated.{goes_on, ends, is_done}
+use Rattle.byte_reader.proofs.Repeated.{goes_on, ends, is_done}
 use Rattle.vm_journal.proofs.reading.read_entries.Goals as goal
 
 pub returns-in_err-signed : goal.returns-in_err-signed

@@ -1,7 +1,7 @@
 use Rattle.std.proofs.Common.{◌≡◌, ◌-◌}
-use Rattle.vm_law.specs.Reader.{times}
+use Rattle.byte_reader.specs.Reader.{times}
 use Rattle.vm_journal.specs.Reading.{signed_at}
-use Rattle.vm_journal.proofs.Repeated.{with_front}
+use Rattle.byte_reader.proofs.Repeated.{with_front}
 use Rattle.vm_journal.proofs.reading.read_entries.Given as goal
 
 abbrev pub invariant-loop : goal.invariant-loop

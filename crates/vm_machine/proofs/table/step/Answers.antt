@@ -1,6 +1,7 @@
-use Rattle.std.proofs.Common.{length, ap, ◌∙◌}
+use Rattle.std.proofs.Common.{length, ap, sym, ◌∙◌}
 use Rattle.std.proofs.lemmas.Bool.{and_parts}
-use Rattle.vm_machine.specs.declared.state.Core.{Core}
+use Rattle.vm_machine.specs.State.{State}
+use Rattle.vm_machine.specs.View.{CoreView}
 use Rattle.vm_machine.specs.Table.{lawful, counted}
 use Rattle.vm_machine.proofs.Keeps.{keeps, length_effect}
 use Rattle.vm_machine.proofs.table.step.Goals as goal
@@ -9,10 +10,10 @@ pub returns-clause-sound : goal.returns-clause-sound
 unfolding lawful
 returns-clause-sound c =
     let may = (and_parts _ _ c.requires.lawful).1 in
-    let same = c.count_entry.ensures ∙ ap counted c.perform-byte.ensures.state in
-    rw same (keeps c.args.core.now c.args.by c.args.entry c.requires.sound may)
+    let same = ap (λ (v : CoreView). v.state) c.count_entry.ensures ∙ ap counted c.perform.ensures.state in
+    rw same (keeps c.args.core.now.state c.args.by c.args.entry c.requires.sound may (ap (λ (s : State). s.machine.ram.code) (sym c.perform.ensures.state) ∙ c.perform.ensures.code))
 
 pub returns-clause-cpus : goal.returns-clause-cpus
 returns-clause-cpus c =
-    let same = c.count_entry.ensures ∙ ap counted c.perform-byte.ensures.state in
-    ap (λ (s : Core). length s.machine.cpus) same ∙ length_effect c.args.core.now c.args.by c.args.entry
+    let same = ap (λ (v : CoreView). v.state) c.count_entry.ensures ∙ ap counted c.perform.ensures.state in
+    ap (λ (s : State). length s.machine.cpus) same ∙ length_effect c.args.core.now.state c.args.by c.args.entry

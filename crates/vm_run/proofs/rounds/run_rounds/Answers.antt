@@ -1,55 +1,34 @@
-use Rattle.std.proofs.Common.{◌≡◌, ◌≤◌, ℕ, suc, false, true, ◌++◌, List, length, take, drop, sym, ap, subst, ◌∙◌, refl, arith}
+use Rattle.std.proofs.Common.{◌≡◌, ◌≤◌, ℕ, suc, false, true, ◌++◌, List, length, take, sym, ap, subst, ◌∙◌, refl, is_some, arith}
 use Rattle.std.proofs.lemmas.List.{append-nil, take_all}
 use Rattle.vm_host.specs.Counts.{Rose}
 use Rattle.vm_law.specs.declared.journal.Signed.{Signed}
-use Rattle.vm_machine.specs.Table.{State}
+use Rattle.vm_machine.specs.State.{State}
 use Rattle.vm_machine.specs.Rounds.{Rounds, chosen, after_round}
+use Rattle.vm_host.specs.Leaves.{Takes}
+use Rattle.vm_host.proofs.Frames.{takes_is_some}
 use Rattle.vm_run.specs.Actors.{Continues, between, by_choice}
 use Rattle.vm_run.specs.Single.{IsSingle}
 use Rattle.vm_run.proofs.Controls.{single_length, goes_out}
-use Rattle.vm_run.proofs.Continued.{continues_on, continues_same, away_stays, sent_on, grows, took_all, took_part, control_inside, closing, full_round, round_made, last_round}
+use Rattle.vm_run.proofs.Continued.{continues_on, continues_same, away_stays, sent_on, sent_all, cut_here, chosen_lawful, control_inside, closing, full_round, round_made, last_round}
+use Rattle.vm_run.proofs.Ended.{closed_by_choice}
 use Rattle.vm_run.proofs.rounds.run_rounds.Goals as goal
 
 pub go_out-away-requires : goal.go_out-away-requires
 go_out-away-requires g c =
-    single_length c.args.playing.now.run.state.core c.requires.single
-
-pub rounds-init : goal.rounds-init
-rounds-init g c =
-    record {
-      single = c.requires.single;
-      going = c.requires.going;
-      inside = c.requires.inside;
-      count = c.go_out-away.ensures.count;
-      away = goes_out c.args.playing.now.run.state.core c.go_out-away.result c.requires.single c.requires.going c.go_out-away.ensures.count c.go_out-away.ensures.ran;
-      continues = continues_same c.args.playing.now c.args.playing.now refl refl;
-      rounds = (0, ap (λ (n : ℕ). between c.args.playing.now.run.state c.args.playing.now.entries.items n) (c.go_out-away.ensures.count ∙ c.requires.rests));
-      within = omega arith;
-      told = refl;
-      taken = λ told. sym (append-nil (g.S.Sink.taken c.args.console.now));
-      faults = refl;
-    }
+    single_length c.args.playing.now.run.state c.requires.single
 
 pub returns-in_err-reserve-clause-continues : goal.returns-in_err-reserve-clause-continues
 returns-in_err-reserve-clause-continues g c =
     let c12 : Continues c.rounds.playing c.reserve.new.self = continues_same c.rounds.playing c.reserve.new.self c.reserve.ensures.state c.reserve.ensures.history in
     continues_on c.args.playing.now c.rounds.playing c.reserve.new.self c.rounds.invariant.continues c12
 
-pub returns-in_err-reserve-clause-wrote : goal.returns-in_err-reserve-clause-wrote
-returns-in_err-reserve-clause-wrote g c =
-    λ told. (c.rounds.sent, c.rounds.invariant.taken told ∙ ap (λ (t : State). g.S.Sink.taken c.args.console.now ++ take c.rounds.sent t.console) (sym c.reserve.ensures.state))
-
-pub returns-in_err-reserve-clause-told : goal.returns-in_err-reserve-clause-told
-returns-in_err-reserve-clause-told g c =
-    c.rounds.invariant.told
-
 pub control_turn-requires-clause-single : goal.control_turn-requires-clause-single
 control_turn-requires-clause-single g c =
-    subst (λ (t : State). IsSingle t.core) (sym c.reserve.ensures.state) c.rounds.invariant.single
+    subst (λ (t : State). IsSingle t) (sym c.reserve.ensures.state) c.rounds.invariant.single
 
 pub control_turn-requires-clause-going : goal.control_turn-requires-clause-going
 control_turn-requires-clause-going g c =
-    ap (λ (t : State). t.core.closed) c.reserve.ensures.state ∙ c.rounds.invariant.going
+    ap (λ (t : State). t.closed) c.reserve.ensures.state ∙ c.rounds.invariant.going
 
 pub control_turn-requires-clause-room : goal.control_turn-requires-clause-room
 control_turn-requires-clause-room g c =
@@ -67,9 +46,9 @@ wind_down-requires-clause-single g c =
 
 pub wind_down-requires-clause-away : goal.wind_down-requires-clause-away
 wind_down-requires-clause-away g c =
-    let machine = c.control_turn.ensures.machine ∙ ap (λ (t : State). t.core.machine) c.reserve.ensures.state in
-    let seats = c.control_turn.ensures.seats ∙ ap (λ (t : State). t.core.seats) c.reserve.ensures.state in
-    λ going. away_stays c.rounds.playing.run.state.core c.control_turn.new.self.run.state.core c.rounds.away c.rounds.invariant.away machine seats (going ∙ sym c.rounds.invariant.going)
+    let machine = c.control_turn.ensures.machine ∙ ap (λ (t : State). t.machine) c.reserve.ensures.state in
+    let seats = c.control_turn.ensures.seats ∙ ap (λ (t : State). t.seats) c.reserve.ensures.state in
+    λ going. away_stays c.rounds.playing.run.state c.control_turn.new.self.run.state c.rounds.away c.rounds.invariant.away machine seats (going ∙ sym c.rounds.invariant.going)
 
 pub wind_down-requires-clause-room : goal.wind_down-requires-clause-room
 wind_down-requires-clause-room g c =
@@ -85,31 +64,13 @@ pub returns-in_default-clause-closed : goal.returns-in_default-clause-closed
 returns-in_default-clause-closed g c =
     λ other. c.wind_down.ensures.closed
 
-pub returns-in_default-clause-wrote : goal.returns-in_default-clause-wrote
-returns-in_default-clause-wrote g c =
-    let c13 : Continues c.rounds.playing c.control_turn.new.self = continues_on c.rounds.playing c.reserve.new.self c.control_turn.new.self (continues_same c.rounds.playing c.reserve.new.self c.reserve.ensures.state c.reserve.ensures.history) c.control_turn.ensures.continues in
-    let sent = sent_on c.rounds.playing c.control_turn.new.self c.rounds.sent c13 c.rounds.invariant.within in
-    λ told.
-    let rest = grows c.control_turn.new.self c.wind_down.new.self c.wind_down.ensures.continues in
-    let part = c.in_default.ensures.part (c.rounds.invariant.told ∙ told) in
-    let joined = took_part (g.S.Sink.taken c.args.console.now) c.control_turn.new.self.run.state.console c.wind_down.new.self.run.state.console rest.0 c.rounds.sent part.0 rest.1 in (
-      joined.0,
-      part.1
-          ∙ ap (λ (l : List ℕ). l ++ take part.0 (drop c.rounds.sent c.control_turn.new.self.run.state.console)) (c.rounds.invariant.taken told ∙ ap (λ (l : List ℕ). g.S.Sink.taken c.args.console.now ++ l) (sym sent.1))
-          ∙ joined.1,
-    )
-
 pub returns-in_default-clause-failed : goal.returns-in_default-clause-failed
 returns-in_default-clause-failed g c =
-    λ same. subst (λ (n : ℕ). Rose n (g.S.Sink.faults c.send_rest.new.console)) c.rounds.invariant.faults c.in_default.ensures.cause.refused
+    λ same. subst (λ (n : ℕ). Rose n ((g.S.Sink.seen c.send_rest.new.console).faults)) c.rounds.invariant.faults c.in_default.ensures.cause.refused
 
 pub returns-in_default-clause-only_failed : goal.returns-in_default-clause-only_failed
 returns-in_default-clause-only_failed g c =
     λ less. refl
-
-pub returns-in_default-clause-told : goal.returns-in_default-clause-told
-returns-in_default-clause-told g c =
-    c.send_rest.ensures.told ∙ c.rounds.invariant.told
 
 pub returns-then-closed-clause-continues : goal.returns-then-closed-clause-continues
 returns-then-closed-clause-continues g c =
@@ -118,30 +79,8 @@ returns-then-closed-clause-continues g c =
 
 pub returns-then-closed-clause-closed : goal.returns-then-closed-clause-closed
 returns-then-closed-clause-closed g c =
-    let shut : c.control_turn.new.self.run.state.core.closed ≡ true = sym c.closed.ensures ∙ c.if-closed.true in
+    let shut : c.control_turn.new.self.run.state.closed ≡ true = sym c.closed.ensures ∙ c.if-closed.true in
     λ other. shut
-
-pub returns-then-closed-clause-wrote : goal.returns-then-closed-clause-wrote
-returns-then-closed-clause-wrote g c =
-    let c13 : Continues c.rounds.playing c.control_turn.new.self = continues_on c.rounds.playing c.reserve.new.self c.control_turn.new.self (continues_same c.rounds.playing c.reserve.new.self c.reserve.ensures.state c.reserve.ensures.history) c.control_turn.ensures.continues in
-    let sent = sent_on c.rounds.playing c.control_turn.new.self c.rounds.sent c13 c.rounds.invariant.within in
-    let whole : (g.S.Sink.tells c.args.console.now ≡ true → g.S.Sink.taken c.send_rest.new.console ≡ g.S.Sink.taken c.args.console.now ++ c.control_turn.new.self.run.state.console) =
-    λ told.
-    c.in-Ok.ensures.whole (c.rounds.invariant.told ∙ told)
-    ∙ ap (λ (l : List ℕ). l ++ drop c.rounds.sent c.control_turn.new.self.run.state.console) (c.rounds.invariant.taken told ∙ ap (λ (l : List ℕ). g.S.Sink.taken c.args.console.now ++ l) (sym sent.1))
-    ∙ took_all (g.S.Sink.taken c.args.console.now) c.control_turn.new.self.run.state.console c.rounds.sent in
-    λ told. (length c.control_turn.new.self.run.state.console, whole told ∙ ap (λ (l : List ℕ). g.S.Sink.taken c.args.console.now ++ l) (sym (take_all (length c.control_turn.new.self.run.state.console) c.control_turn.new.self.run.state.console (omega arith))))
-
-pub returns-then-closed-clause-all : goal.returns-then-closed-clause-all
-returns-then-closed-clause-all g c =
-    let c13 : Continues c.rounds.playing c.control_turn.new.self = continues_on c.rounds.playing c.reserve.new.self c.control_turn.new.self (continues_same c.rounds.playing c.reserve.new.self c.reserve.ensures.state c.reserve.ensures.history) c.control_turn.ensures.continues in
-    let sent = sent_on c.rounds.playing c.control_turn.new.self c.rounds.sent c13 c.rounds.invariant.within in
-    let whole : (g.S.Sink.tells c.args.console.now ≡ true → g.S.Sink.taken c.send_rest.new.console ≡ g.S.Sink.taken c.args.console.now ++ c.control_turn.new.self.run.state.console) =
-    λ told.
-    c.in-Ok.ensures.whole (c.rounds.invariant.told ∙ told)
-    ∙ ap (λ (l : List ℕ). l ++ drop c.rounds.sent c.control_turn.new.self.run.state.console) (c.rounds.invariant.taken told ∙ ap (λ (l : List ℕ). g.S.Sink.taken c.args.console.now ++ l) (sym sent.1))
-    ∙ took_all (g.S.Sink.taken c.args.console.now) c.control_turn.new.self.run.state.console c.rounds.sent in
-    λ done told. whole told
 
 pub returns-then-closed-clause-only_failed : goal.returns-then-closed-clause-only_failed
 returns-then-closed-clause-only_failed g c =
@@ -155,20 +94,16 @@ returns-then-closed-clause-outside g c =
 pub returns-then-closed-clause-solo : goal.returns-then-closed-clause-solo
 returns-then-closed-clause-solo g c =
     let cs : c.control_turn.new.self.run.state ≡ by_choice c.rounds.playing.run.state 0 = c.control_turn.ensures.state ∙ ap (λ (t : State). by_choice t 0) c.reserve.ensures.state in
-    let ch : c.control_turn.new.self.entries.items ≡ c.rounds.playing.entries.items ++ chosen c.rounds.playing.run.state.core 0 = c.control_turn.ensures.history ∙ ap (λ (l : List Signed). l ++ chosen c.reserve.new.self.run.state.core 0) c.reserve.ensures.history ∙ ap (λ (t : State). c.rounds.playing.entries.items ++ chosen t.core 0) c.reserve.ensures.state in
-    let shut : c.control_turn.new.self.run.state.core.closed ≡ true = sym c.closed.ensures ∙ c.if-closed.true in
+    let ch : c.control_turn.new.self.entries.items ≡ c.rounds.playing.entries.items ++ chosen c.rounds.playing.run.state 0 = c.control_turn.ensures.history ∙ ap (λ (l : List Signed). l ++ chosen c.reserve.new.self.run.state 0) c.reserve.ensures.history ∙ ap (λ (t : State). c.rounds.playing.entries.items ++ chosen t 0) c.reserve.ensures.state in
+    let shut : c.control_turn.new.self.run.state.closed ≡ true = sym c.closed.ensures ∙ c.if-closed.true in
     λ done.
     let none = closing c.rounds.playing.run.state c.control_turn.new.self.run.state c.rounds.away.count c.rounds.invariant.single c.rounds.invariant.going c.rounds.invariant.count cs shut in
-    let last = last_round c.rounds.playing.run.state c.rounds.playing.entries.items c.rounds.away.count none (ap (λ (t : State). t.core.closed) (sym cs) ∙ shut) in
+    let last = last_round c.rounds.playing.run.state c.rounds.playing.entries.items c.rounds.away.count none (ap (λ (t : State). t.closed) (sym cs) ∙ shut) in
     record {
       rounds = suc c.rounds.invariant.rounds.0;
       made = ch ∙ sym last.0 ∙ ap (λ (r : Rounds). (after_round r).history) c.rounds.invariant.rounds.1;
-      closed = ap (λ (r : Rounds). (after_round r).state.core.closed) (sym c.rounds.invariant.rounds.1) ∙ last.1;
+      closed = ap (λ (r : Rounds). (after_round r).state.closed) (sym c.rounds.invariant.rounds.1) ∙ last.1;
     }
-
-pub returns-then-closed-clause-told : goal.returns-then-closed-clause-told
-returns-then-closed-clause-told g c =
-    c.send_rest.ensures.told ∙ c.rounds.invariant.told
 
 pub runner_turn-away-requires-clause-single : goal.runner_turn-away-requires-clause-single
 runner_turn-away-requires-clause-single g c =
@@ -176,15 +111,15 @@ runner_turn-away-requires-clause-single g c =
 
 pub runner_turn-away-requires-clause-going : goal.runner_turn-away-requires-clause-going
 runner_turn-away-requires-clause-going g c =
-    let going : c.control_turn.new.self.run.state.core.closed ≡ false = sym c.closed.ensures ∙ c.if-closed.false in
+    let going : c.control_turn.new.self.run.state.closed ≡ false = sym c.closed.ensures ∙ c.if-closed.false in
     going
 
 pub runner_turn-away-requires-clause-away : goal.runner_turn-away-requires-clause-away
 runner_turn-away-requires-clause-away g c =
-    let machine = c.control_turn.ensures.machine ∙ ap (λ (t : State). t.core.machine) c.reserve.ensures.state in
-    let seats = c.control_turn.ensures.seats ∙ ap (λ (t : State). t.core.seats) c.reserve.ensures.state in
-    let going : c.control_turn.new.self.run.state.core.closed ≡ false = sym c.closed.ensures ∙ c.if-closed.false in
-    away_stays c.rounds.playing.run.state.core c.control_turn.new.self.run.state.core c.rounds.away c.rounds.invariant.away machine seats (going ∙ sym c.rounds.invariant.going)
+    let machine = c.control_turn.ensures.machine ∙ ap (λ (t : State). t.machine) c.reserve.ensures.state in
+    let seats = c.control_turn.ensures.seats ∙ ap (λ (t : State). t.seats) c.reserve.ensures.state in
+    let going : c.control_turn.new.self.run.state.closed ≡ false = sym c.closed.ensures ∙ c.if-closed.false in
+    away_stays c.rounds.playing.run.state c.control_turn.new.self.run.state c.rounds.away c.rounds.invariant.away machine seats (going ∙ sym c.rounds.invariant.going)
 
 pub runner_turn-away-requires-clause-room : goal.runner_turn-away-requires-clause-room
 runner_turn-away-requires-clause-room g c =
@@ -193,24 +128,106 @@ runner_turn-away-requires-clause-room g c =
 pub rounds-smaller : goal.rounds-smaller
 rounds-smaller g c =
     let cs : c.control_turn.new.self.run.state ≡ by_choice c.rounds.playing.run.state 0 = c.control_turn.ensures.state ∙ ap (λ (t : State). by_choice t 0) c.reserve.ensures.state in
-    let going : c.control_turn.new.self.run.state.core.closed ≡ false = sym c.closed.ensures ∙ c.if-closed.false in
+    let going : c.control_turn.new.self.run.state.closed ≡ false = sym c.closed.ensures ∙ c.if-closed.false in
     let full = full_round c.rounds.playing.run.state c.control_turn.new.self.run.state c.runner_turn-away.new.self.run.state c.rounds.away.count c.rounds.invariant.single c.rounds.invariant.going c.rounds.invariant.count cs going c.runner_turn-away.ensures.state in
     full.less
+
+pub returns-in_err-reserve-clause-later : goal.returns-in_err-reserve-clause-later
+returns-in_err-reserve-clause-later g c = omega (arith, c.rounds.invariant.faults)
+
+pub returns-in_default-clause-later : goal.returns-in_default-clause-later
+returns-in_default-clause-later g c = omega (arith, c.in_default.ensures.cause.later, c.rounds.invariant.faults)
+
+pub returns-then-closed-clause-later : goal.returns-then-closed-clause-later
+returns-then-closed-clause-later g c = omega (arith, c.in-Ok.ensures.cause.later, c.rounds.invariant.faults)
+
+pub rounds-init : goal.rounds-init
+rounds-init g c =
+    record {
+      single = c.requires.single;
+      going = c.requires.going;
+      inside = c.requires.inside;
+      count = c.go_out-away.ensures.count;
+      away = goes_out c.args.playing.now.run.state c.go_out-away.result c.requires.single c.requires.going c.go_out-away.ensures.count c.go_out-away.ensures.ran;
+      continues = continues_same c.args.playing.now c.args.playing.now refl refl;
+      rounds = (0, ap (λ (n : ℕ). between c.args.playing.now.run.state c.args.playing.now.entries.items n) (c.go_out-away.ensures.count ∙ c.requires.rests), refl);
+      within = omega arith;
+      took = record { told = refl; taken = λ told. sym (append-nil (g.S.Sink.seen c.args.console.now).taken) };
+      faults = refl;
+    }
+
+pub returns-in_err-reserve-clause-wrote : goal.returns-in_err-reserve-clause-wrote
+returns-in_err-reserve-clause-wrote g c =
+    record {
+      told = c.rounds.invariant.took.told;
+      taken = λ told. (c.rounds.sent, c.rounds.invariant.took.taken told ∙ ap (λ (t : State). (g.S.Sink.seen c.args.console.now).taken ++ take c.rounds.sent t.console) (sym c.reserve.ensures.state));
+    }
+
+pub wind_down-requires-clause-none_out : goal.wind_down-requires-clause-none_out
+wind_down-requires-clause-none_out g c =
+    let cs : c.control_turn.new.self.run.state ≡ by_choice c.rounds.playing.run.state 0 = c.control_turn.ensures.state ∙ ap (λ (t : State). by_choice t 0) c.reserve.ensures.state in
+    λ shut. closing c.rounds.playing.run.state c.control_turn.new.self.run.state c.rounds.away.count c.rounds.invariant.single c.rounds.invariant.going c.rounds.invariant.count cs shut
+
+pub wind_down-requires-clause-ended : goal.wind_down-requires-clause-ended
+wind_down-requires-clause-ended g c =
+    let cs : c.control_turn.new.self.run.state ≡ by_choice c.rounds.playing.run.state 0 = c.control_turn.ensures.state ∙ ap (λ (t : State). by_choice t 0) c.reserve.ensures.state in
+    λ shut.
+    ap (λ (t : State). is_some t.ended) cs
+    ∙ closed_by_choice c.rounds.playing.run.state (chosen c.rounds.playing.run.state 0) c.rounds.invariant.going (chosen_lawful c.rounds.playing.run.state 0) (ap (λ (t : State). t.closed) (sym cs) ∙ shut)
+
+pub returns-in_default-clause-cut : goal.returns-in_default-clause-cut
+returns-in_default-clause-cut g c =
+    let c13 : Continues c.rounds.playing c.control_turn.new.self = continues_on c.rounds.playing c.reserve.new.self c.control_turn.new.self (continues_same c.rounds.playing c.reserve.new.self c.reserve.ensures.state c.reserve.ensures.history) c.control_turn.ensures.continues in
+    let cs : c.control_turn.new.self.run.state ≡ by_choice c.rounds.playing.run.state 0 = c.control_turn.ensures.state ∙ ap (λ (t : State). by_choice t 0) c.reserve.ensures.state in
+    let ch : c.control_turn.new.self.entries.items ≡ c.rounds.playing.entries.items ++ chosen c.rounds.playing.run.state 0 = c.control_turn.ensures.history ∙ ap (λ (l : List Signed). l ++ chosen c.reserve.new.self.run.state 0) c.reserve.ensures.history ∙ ap (λ (t : State). c.rounds.playing.entries.items ++ chosen t 0) c.reserve.ensures.state in
+    λ same.
+    cut_here (between c.args.playing.now.run.state c.args.playing.now.entries.items 0) c.rounds.playing c.control_turn.new.self c.wind_down.new.self c.rounds.invariant.rounds.0 c.rounds.away.count c.rounds.sent
+    (g.S.Sink.seen c.args.console.now) (g.S.Sink.seen c.rounds.console) (g.S.Sink.seen c.send_rest.new.console)
+    c.rounds.invariant.rounds.1 c.rounds.invariant.rounds.2 cs ch c13 c.wind_down.ensures.winds_down c.wind_down.ensures.continues c.rounds.invariant.within c.rounds.invariant.took c.in_default.ensures.refused
+
+pub returns-in_default-clause-wrote : goal.returns-in_default-clause-wrote
+returns-in_default-clause-wrote g c =
+    let c13 : Continues c.rounds.playing c.control_turn.new.self = continues_on c.rounds.playing c.reserve.new.self c.control_turn.new.self (continues_same c.rounds.playing c.reserve.new.self c.reserve.ensures.state c.reserve.ensures.history) c.control_turn.ensures.continues in
+    let cs : c.control_turn.new.self.run.state ≡ by_choice c.rounds.playing.run.state 0 = c.control_turn.ensures.state ∙ ap (λ (t : State). by_choice t 0) c.reserve.ensures.state in
+    let ch : c.control_turn.new.self.entries.items ≡ c.rounds.playing.entries.items ++ chosen c.rounds.playing.run.state 0 = c.control_turn.ensures.history ∙ ap (λ (l : List Signed). l ++ chosen c.reserve.new.self.run.state 0) c.reserve.ensures.history ∙ ap (λ (t : State). c.rounds.playing.entries.items ++ chosen t 0) c.reserve.ensures.state in
+    let cut =
+    cut_here (between c.args.playing.now.run.state c.args.playing.now.entries.items 0) c.rounds.playing c.control_turn.new.self c.wind_down.new.self c.rounds.invariant.rounds.0 c.rounds.away.count c.rounds.sent
+    (g.S.Sink.seen c.args.console.now) (g.S.Sink.seen c.rounds.console) (g.S.Sink.seen c.send_rest.new.console)
+    c.rounds.invariant.rounds.1 c.rounds.invariant.rounds.2 cs ch c13 c.wind_down.ensures.winds_down c.wind_down.ensures.continues c.rounds.invariant.within c.rounds.invariant.took c.in_default.ensures.refused in
+    record {
+      told = c.in_default.ensures.part.told ∙ c.rounds.invariant.took.told;
+      taken = λ told. let n = cut.took told in (n.0, n.3);
+    }
+
+pub returns-then-closed-clause-wrote : goal.returns-then-closed-clause-wrote
+returns-then-closed-clause-wrote g c =
+    let c13 : Continues c.rounds.playing c.control_turn.new.self = continues_on c.rounds.playing c.reserve.new.self c.control_turn.new.self (continues_same c.rounds.playing c.reserve.new.self c.reserve.ensures.state c.reserve.ensures.history) c.control_turn.ensures.continues in
+    let sent = sent_on c.rounds.playing c.control_turn.new.self c.rounds.sent c13 c.rounds.invariant.within in
+    let whole : Takes c.control_turn.new.self.run.state.console (g.S.Sink.seen c.args.console.now) (g.S.Sink.seen c.send_rest.new.console) =
+    sent_all c.rounds.playing.run.state.console c.control_turn.new.self.run.state.console c.rounds.sent (g.S.Sink.seen c.args.console.now) (g.S.Sink.seen c.rounds.console) (g.S.Sink.seen c.send_rest.new.console) sent.1 c.rounds.invariant.took c.in-Ok.ensures.whole in
+    takes_is_some (g.S.Sink.seen c.args.console.now) (g.S.Sink.seen c.send_rest.new.console) c.control_turn.new.self.run.state.console whole
+
+pub returns-then-closed-clause-all : goal.returns-then-closed-clause-all
+returns-then-closed-clause-all g c =
+    let c13 : Continues c.rounds.playing c.control_turn.new.self = continues_on c.rounds.playing c.reserve.new.self c.control_turn.new.self (continues_same c.rounds.playing c.reserve.new.self c.reserve.ensures.state c.reserve.ensures.history) c.control_turn.ensures.continues in
+    let sent = sent_on c.rounds.playing c.control_turn.new.self c.rounds.sent c13 c.rounds.invariant.within in
+    let whole : Takes c.control_turn.new.self.run.state.console (g.S.Sink.seen c.args.console.now) (g.S.Sink.seen c.send_rest.new.console) =
+    sent_all c.rounds.playing.run.state.console c.control_turn.new.self.run.state.console c.rounds.sent (g.S.Sink.seen c.args.console.now) (g.S.Sink.seen c.rounds.console) (g.S.Sink.seen c.send_rest.new.console) sent.1 c.rounds.invariant.took c.in-Ok.ensures.whole in
+    λ done. whole
 
 pub rounds-preserved : goal.rounds-preserved
 rounds-preserved g c =
     let c13 : Continues c.rounds.playing c.control_turn.new.self = continues_on c.rounds.playing c.reserve.new.self c.control_turn.new.self (continues_same c.rounds.playing c.reserve.new.self c.reserve.ensures.state c.reserve.ensures.history) c.control_turn.ensures.continues in
     let sent = sent_on c.rounds.playing c.control_turn.new.self c.rounds.sent c13 c.rounds.invariant.within in
     let cs : c.control_turn.new.self.run.state ≡ by_choice c.rounds.playing.run.state 0 = c.control_turn.ensures.state ∙ ap (λ (t : State). by_choice t 0) c.reserve.ensures.state in
-    let ch : c.control_turn.new.self.entries.items ≡ c.rounds.playing.entries.items ++ chosen c.rounds.playing.run.state.core 0 = c.control_turn.ensures.history ∙ ap (λ (l : List Signed). l ++ chosen c.reserve.new.self.run.state.core 0) c.reserve.ensures.history ∙ ap (λ (t : State). c.rounds.playing.entries.items ++ chosen t.core 0) c.reserve.ensures.state in
-    let going : c.control_turn.new.self.run.state.core.closed ≡ false = sym c.closed.ensures ∙ c.if-closed.false in
+    let ch : c.control_turn.new.self.entries.items ≡ c.rounds.playing.entries.items ++ chosen c.rounds.playing.run.state 0 = c.control_turn.ensures.history ∙ ap (λ (l : List Signed). l ++ chosen c.reserve.new.self.run.state 0) c.reserve.ensures.history ∙ ap (λ (t : State). c.rounds.playing.entries.items ++ chosen t 0) c.reserve.ensures.state in
+    let going : c.control_turn.new.self.run.state.closed ≡ false = sym c.closed.ensures ∙ c.if-closed.false in
     let full = full_round c.rounds.playing.run.state c.control_turn.new.self.run.state c.runner_turn-away.new.self.run.state c.rounds.away.count c.rounds.invariant.single c.rounds.invariant.going c.rounds.invariant.count cs going c.runner_turn-away.ensures.state in
-    let whole : (g.S.Sink.tells c.args.console.now ≡ true → g.S.Sink.taken c.send_rest.new.console ≡ g.S.Sink.taken c.args.console.now ++ c.control_turn.new.self.run.state.console) =
-    λ told.
-    c.in-Ok.ensures.whole (c.rounds.invariant.told ∙ told)
-    ∙ ap (λ (l : List ℕ). l ++ drop c.rounds.sent c.control_turn.new.self.run.state.console) (c.rounds.invariant.taken told ∙ ap (λ (l : List ℕ). g.S.Sink.taken c.args.console.now ++ l) (sym sent.1))
-    ∙ took_all (g.S.Sink.taken c.args.console.now) c.control_turn.new.self.run.state.console c.rounds.sent in
+    let whole : Takes c.control_turn.new.self.run.state.console (g.S.Sink.seen c.args.console.now) (g.S.Sink.seen c.send_rest.new.console) =
+    sent_all c.rounds.playing.run.state.console c.control_turn.new.self.run.state.console c.rounds.sent (g.S.Sink.seen c.args.console.now) (g.S.Sink.seen c.rounds.console) (g.S.Sink.seen c.send_rest.new.console) sent.1 c.rounds.invariant.took c.in-Ok.ensures.whole in
     let last = sent_on c.control_turn.new.self c.runner_turn-away.new.self (length c.control_turn.new.self.run.state.console) c.runner_turn-away.ensures.continues (omega arith) in
+    let front : c.control_turn.new.self.run.state.console ≡ take c.in-Ok.all c.runner_turn-away.new.self.run.state.console
+    = sym (take_all (length c.control_turn.new.self.run.state.console) c.control_turn.new.self.run.state.console (omega arith)) ∙ sym last.1 ∙ ap (λ (k : ℕ). take k c.runner_turn-away.new.self.run.state.console) (sym c.in-Ok.ensures.sent) in
     record {
       single = c.runner_turn-away.ensures.single;
       going = c.runner_turn-away.ensures.going;
@@ -222,21 +239,9 @@ rounds-preserved g c =
         suc c.rounds.invariant.rounds.0,
         round_made c.rounds.playing.run.state c.control_turn.new.self.run.state c.runner_turn-away.new.self.run.state c.rounds.playing.entries.items c.control_turn.new.self.entries.items c.runner_turn-away.new.self.entries.items c.rounds.away.count c.runner_turn-away.result.count cs ch c.runner_turn-away.ensures.state c.runner_turn-away.ensures.history c.runner_turn-away.ensures.count
             ∙ ap (λ (r : Rounds). after_round r) c.rounds.invariant.rounds.1,
+        c.in-Ok.ensures.sent ∙ ap (λ (t : State). length t.console) cs ∙ ap (λ (r : Rounds). length (by_choice r.state 0).console) c.rounds.invariant.rounds.1,
       );
       within = subst (λ (k : ℕ). k ≤ length c.runner_turn-away.new.self.run.state.console) (sym c.in-Ok.ensures.sent) last.0;
-      told = c.send_rest.ensures.told ∙ c.rounds.invariant.told;
-      taken = λ told.
-          whole told
-          ∙ ap (λ (l : List ℕ). g.S.Sink.taken c.args.console.now ++ l)
-          (sym (take_all (length c.control_turn.new.self.run.state.console) c.control_turn.new.self.run.state.console (omega arith)) ∙ sym last.1 ∙ ap (λ (k : ℕ). take k c.runner_turn-away.new.self.run.state.console) (sym c.in-Ok.ensures.sent));
+      took = subst (λ (l : List ℕ). Takes l (g.S.Sink.seen c.args.console.now) (g.S.Sink.seen c.send_rest.new.console)) front whole;
       faults = c.in-Ok.ensures.cause.quiet ∙ c.rounds.invariant.faults;
     }
-
-pub returns-in_err-reserve-clause-later : goal.returns-in_err-reserve-clause-later
-returns-in_err-reserve-clause-later g c = omega (arith, c.rounds.invariant.faults)
-
-pub returns-in_default-clause-later : goal.returns-in_default-clause-later
-returns-in_default-clause-later g c = omega (arith, c.in_default.ensures.cause.later, c.rounds.invariant.faults)
-
-pub returns-then-closed-clause-later : goal.returns-then-closed-clause-later
-returns-then-closed-clause-later g c = omega (arith, c.in-Ok.ensures.cause.later, c.rounds.invariant.faults)

@@ -1,9 +1,10 @@
 use Rattle.std.proofs.Common.{◌≡◌, ap, ◌∙◌}
 use Rattle.std.specs.Option.{option_copied}
-use Rattle.vm_machine.specs.Table.{State}
+use Rattle.vm_machine.specs.State.{State}
 use Rattle.vm_machine.specs.History.{why_ended}
 use Rattle.vm_run.specs.declared.outcome.Kept.{Kept}
 use Rattle.vm_run.specs.Answer.{Outside, outside}
+use Rattle.vm_run.proofs.Frames.{changes_itself}
 use Rattle.vm_run.proofs.Runs.{IsPlayed, run_answers, run_causes}
 use Rattle.vm_run.proofs.solo.run_start.Goals as goal
 
@@ -12,10 +13,9 @@ returns-in-Ok-clause-answers g c =
     let p = c.in-Ok.played in
     let e = c.in-Ok.ensures in
     let k : Kept = record { start = c.args.start; journal = p.journal; run = p.run } in
-    let o : Outside = outside (g.H.Host.tells c.args.host.now) (g.H.Host.file c.args.host.now) (g.H.Host.file c.close-status.new.host)
-    (g.S.Sink.tells c.args.console.now) (g.S.Sink.taken c.args.console.now) (g.S.Sink.taken c.play.new.console) in
-    let played : IsPlayed o k p.end = record { legal = e.legal; closed = e.closed; wrote = e.wrote; all = e.all; no_fault = e.outside; solo = e.solo } in
-    let ended : c.ended.result ≡ why_ended k.start k.journal = c.ended.ensures ∙ ap (λ (s : State). s.core.ended) e.last in
+    let o : Outside = outside (g.H.Host.seen c.args.host.now) (g.H.Host.seen c.close-status.new.host) (g.S.Sink.seen c.args.console.now) (g.S.Sink.seen c.play.new.console) in
+    let played : IsPlayed o k p.end = record { legal = e.legal; closed = e.closed; all = e.all; cut = e.cut; no_fault = e.outside; solo = e.solo } in
+    let ended : c.ended.result ≡ why_ended k.start k.journal = c.ended.ensures ∙ ap (λ (s : State). s.ended) e.last in
     run_answers o (option_copied c.args.journal) k p.end c.ended.result c.close-status.result ended played c.close-status.ensures.closes
 
 pub returns-in-Ok-clause-causes : goal.returns-in-Ok-clause-causes
@@ -23,9 +23,12 @@ returns-in-Ok-clause-causes g c =
     let p = c.in-Ok.played in
     let e = c.in-Ok.ensures in
     let k : Kept = record { start = c.args.start; journal = p.journal; run = p.run } in
-    let o : Outside = outside (g.H.Host.tells c.args.host.now) (g.H.Host.file c.args.host.now) (g.H.Host.file c.close-status.new.host)
-    (g.S.Sink.tells c.args.console.now) (g.S.Sink.taken c.args.console.now) (g.S.Sink.taken c.play.new.console) in
-    let played : IsPlayed o k p.end = record { legal = e.legal; closed = e.closed; wrote = e.wrote; all = e.all; no_fault = e.outside; solo = e.solo } in
-    let ended : c.ended.result ≡ why_ended k.start k.journal = c.ended.ensures ∙ ap (λ (s : State). s.core.ended) e.last in
-    run_causes c.close-status.result _ _ _ _ _ _ c.close-status.ensures.causes e.later o (option_copied c.args.journal) k p.end c.ended.result ended played c.close-status.ensures.closes
-    e.failed e.only_failed
+    let o : Outside = outside (g.H.Host.seen c.args.host.now) (g.H.Host.seen c.close-status.new.host) (g.S.Sink.seen c.args.console.now) (g.S.Sink.seen c.play.new.console) in
+    let played : IsPlayed o k p.end = record { legal = e.legal; closed = e.closed; all = e.all; cut = e.cut; no_fault = e.outside; solo = e.solo } in
+    let ended : c.ended.result ≡ why_ended k.start k.journal = c.ended.ensures ∙ ap (λ (s : State). s.ended) e.last in
+    run_causes c.close-status.result (g.H.Host.seen c.args.host.now) (g.H.Host.seen c.close-status.new.host) (g.S.Sink.seen c.args.console.now) (g.S.Sink.seen c.play.new.console)
+    c.close-status.ensures.causes e.later o (option_copied c.args.journal) k p.end c.ended.result ended played c.close-status.ensures.closes e.failed e.only_failed
+
+pub returns-in-Err-clause-host : goal.returns-in-Err-clause-host
+returns-in-Err-clause-host g c =
+    changes_itself (option_copied c.args.journal) (g.H.Host.seen c.args.host.now) (λ told. g.met.H.Host.since_earlier c.args.host.now told)

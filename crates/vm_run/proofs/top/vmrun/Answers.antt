@@ -1,4 +1,4 @@
-use Rattle.std.proofs.Common.{◌≡◌, Contains, sym, subst, arith}
+use Rattle.std.proofs.Common.{◌≡◌, Contains, sym, subst}
 use Rattle.vm_run.specs.declared.command.Command.{Command}
 use Rattle.vm_run.specs.Answer.{statuses, done_statuses, CanDo, MustRefuse}
 use Rattle.vm_run.specs.Words.{IsTwice}
@@ -13,15 +13,14 @@ pub returns-in-Ok-clause-complete : goal.returns-in-Ok-clause-complete
 returns-in-Ok-clause-complete g c = λ command says told can calm.
     let same : c.in-Ok.command ≡ command = one_command (texts c.args.words.now) c.in-Ok.command command c.in-Ok.ensures says in
     subst (λ (x : Command). Contains (done_statuses x) c.still_cmd.result.status) same
-    (c.still_cmd.ensures.complete told (subst (λ (x : Command). CanDo (g.H.Host.file c.args.host.now) x) (sym same) can) calm)
+    (c.still_cmd.ensures.complete told (subst (λ (x : Command). CanDo ((g.H.Host.seen c.args.host.now).file) x) (sym same) can) calm)
 
 pub returns-in-Ok-clause-refuses : goal.returns-in-Ok-clause-refuses
 returns-in-Ok-clause-refuses g c = λ command says told must.
     let same : c.in-Ok.command ≡ command = one_command (texts c.args.words.now) c.in-Ok.command command c.in-Ok.ensures says in
-    c.still_cmd.ensures.refuses told (subst (λ (x : Command). MustRefuse (g.H.Host.file c.args.host.now) x) (sym same) must)
+    c.still_cmd.ensures.refuses told (subst (λ (x : Command). MustRefuse ((g.H.Host.seen c.args.host.now).file) x) (sym same) must)
 
 pub returns-in-Ok-clause-twice : goal.returns-in-Ok-clause-twice
 returns-in-Ok-clause-twice g c = λ command says twice.
     let same : c.in-Ok.command ≡ command = one_command (texts c.args.words.now) c.in-Ok.command command c.in-Ok.ensures says in
-    let t = c.still_cmd.ensures.twice (subst (λ (x : Command). IsTwice x) (sym same) twice) in
-    ((0, omega arith, sym t.0), t.1, t.2)
+    c.still_cmd.ensures.twice (subst (λ (x : Command). IsTwice x) (sym same) twice)

@@ -3,7 +3,7 @@ use Rattle.std.specs.Prelude.{IfOk, ◌↔◌, ◌≤◌}
 use Rattle.vm_law.specs.declared.insn.Insn.{Insn}
 use Rattle.x86_decode.specs.declared.fault.DecodeFault.{DecodeFault}
 use Rattle.x86_decode.specs.declared.fault.DecodeFault.TheVariants.{Short, Unknown}
-use Rattle.vm_law.specs.Grammar.{Spelled, IsPartial, IsUnknown}
+use Rattle.x86_grammar.specs.Grammar.{Spelled, IsPartial, IsUnknown}
 use Rattle.x86_decode.specs.Reading.{decoded}
 use Rattle.x86_decode.proofs.Exact.{found, only, short, unknown}
 use Rattle.x86_decode.proofs.decoder.decode.Goals as goal

@@ -1,7 +1,7 @@
 use Rattle.std.proofs.Common.{ℕ, subst, Result}
 use Rattle.std.specs.Prelude.{IfOk, ◌≤◌, length, take}
 use Rattle.vm_law.specs.declared.insn.Insn.{Insn}
-use Rattle.vm_law.specs.Grammar.{Spelled}
+use Rattle.x86_grammar.specs.Grammar.{Spelled}
 use Rattle.x86_decode.specs.declared.fault.DecodeFault.{DecodeFault}
 use Rattle.x86_decode.specs.Reading.{decoded}
 use Rattle.x86_decode.proofs.Exact.{found, only, short, unknown}

@@ -1,6 +1,6 @@
 use Rattle.std.proofs.Common.{ap, ◌∙◌, arith, ℕ}
 use Rattle.std.specs.Prelude.{slice_range}
-use Rattle.vm_law.specs.declared.table.TheConstants.{ROWS}
+use Rattle.x86_grammar.specs.declared.table.TheConstants.{ROWS}
 use Rattle.x86_decode.specs.Index.{key_of, from_of, upto_of}
 use Rattle.x86_decode.proofs.Indexed.{in_table}
 use Rattle.x86_decode.proofs.index.rows_at.Goals as goal

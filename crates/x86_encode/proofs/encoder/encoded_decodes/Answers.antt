@@ -1,7 +1,7 @@
-use Rattle.std.proofs.Common.{◌≡◌, ℕ, ◌≤◌, List, ◌++◌, length, sym, subst, arith}
+use Rattle.std.proofs.Common.{ℕ, List, ◌++◌, length, sym, subst, arith}
 use Rattle.std.proofs.Math.Seq.{take-append_seam}
 use Rattle.std.proofs.lemmas.List.{length-append}
-use Rattle.vm_law.specs.Grammar.{Spelled}
+use Rattle.x86_grammar.specs.Grammar.{Spelled}
 use Rattle.x86_decode.specs.Reading.{decoded}
 use Rattle.x86_decode.proofs.Exact.{only}
 use Rattle.x86_encode.proofs.encoder.encoded_decodes.Goals as goal

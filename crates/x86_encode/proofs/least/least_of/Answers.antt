@@ -1,6 +1,6 @@
 use Rattle.std.proofs.Common.{◌≡◌, ◌<◌, List, take, length, subst, arith}
 use Rattle.std.proofs.lemmas.List.{take_all}
-use Rattle.vm_law.specs.declared.table.Row.{Row}
+use Rattle.x86_grammar.specs.declared.table.Row.{Row}
 use Rattle.x86_encode.proofs.Best.{BestText, turn}
 use Rattle.x86_encode.proofs.least.least_of.Goals as goal
 

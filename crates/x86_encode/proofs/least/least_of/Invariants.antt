@@ -1,5 +1,5 @@
 use Rattle.std.proofs.Common.{take, MatchOption}
-use Rattle.x86_encode.specs.Selecting.{IsLeast, NoneFits}
+use Rattle.x86_encode.specs.Inside.Selecting.{IsLeast, NoneFits}
 use Rattle.x86_encode.proofs.least.least_of.Given as goal
 
 -- the best of the rows so far

@@ -1,9 +1,8 @@
 use Rattle.std.proofs.Common.{◌≡◌, List, length, get_or, set, sym, ◌∙◌, ap, subst, string_bytes}
-use Rattle.vm_host.specs.Crash.{ReadsNow}
 use Rattle.vm_host.specs.Kinds.{lent_of}
 use Rattle.vm_host.specs.Past.{Change, file_of, LeftSince}
 use Rattle.vm_host.specs.MemState.{HostState}
-use Rattle.vm_host.proofs.Pasts.{reads_now}
+use Rattle.vm_host.proofs.Pasts.{reads_now, ReadsPast}
 use Rattle.vm_host.proofs.GivenBack.{back, set_kept}
 use Rattle.vm_host.proofs.mem_host.MemHost.give_back.Goals as goal
 
@@ -29,5 +28,5 @@ returns-in-Some-clause-reads c =
 
 pub returns-in_default-clause-reads : goal.returns-in_default-clause-reads
 returns-in_default-clause-reads c =
-    let keeps : List Change → Type 0 = λ l. ReadsNow (length l) (LeftSince l) (file_of l) in
+    let keeps : List Change → Type 0 = λ l. ReadsPast l in
     subst (λ (m : HostState). keeps m.past) c.self.view_is (reads_now c.self.inside.past.items c.self.invariant)

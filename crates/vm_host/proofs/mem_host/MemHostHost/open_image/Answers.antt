@@ -1,11 +1,33 @@
-use Rattle.std.proofs.Common.{false, ◌∷◌, ◌∙◌, ap}
+use Rattle.std.proofs.Common.{refl, rules, false, ◌∷◌, ◌∙◌, ap}
 use Rattle.vm_host.specs.declared.event.Kind.TheVariants.{Lent}
 use Rattle.vm_host.specs.Past.{Change}
 use Rattle.vm_host.specs.MemState.{HostState}
+use Rattle.vm_host.proofs.Unwritten.{unwritten}
 use Rattle.vm_host.proofs.Pasts.{passes_to}
 use Rattle.vm_host.proofs.mem_host.MemHostHost.open_image.Goals as goal
 
-pub returns-clause-time : goal.returns-clause-time
-returns-clause-time c = λ _.
+pub returns-clause-leaves : goal.returns-clause-leaves
+returns-clause-leaves c =
     let e : Change = record { name = c.args.name.now; bytes = c.in_ok-same.same.items; kind = Lent false } in
-    passes_to c.args.self.now.past c.take_off_image.new.self.past e (ap (λ (m : HostState). m.past) c.take_off_image.ensures.after ∙ ap (λ (m : HostState). m.past) c.in_ok-remember.ensures.ok ∙ ap (λ (m : HostState). e ∷ m.past) c.call_fails.ensures.after)
+    record {
+      told = refl;
+      files = λ _ q ne. search rules;
+      made = λ _ q ne. search rules;
+      time = λ _. passes_to c.args.self.now.past c.take_off_image.new.self.past e (ap (λ (m : HostState). m.past) c.take_off_image.ensures.after ∙ ap (λ (m : HostState). m.past) c.in_ok-remember.ensures.ok ∙ ap (λ (m : HostState). e ∷ m.past) c.call_fails.ensures.after);
+      image_faults = search rules;
+    }
+
+pub returns-then-call_fails-clause-leaves : goal.returns-then-call_fails-clause-leaves
+returns-then-call_fails-clause-leaves c = unwritten c.args.name.now c.args.self.now c.call_fails.new.self (search rules) (search rules)
+
+pub returns-in_err-lent-clause-leaves : goal.returns-in_err-lent-clause-leaves
+returns-in_err-lent-clause-leaves c = unwritten c.args.name.now c.args.self.now c.call_fails.new.self (search rules) (search rules)
+
+pub returns-in_err-same-clause-leaves : goal.returns-in_err-same-clause-leaves
+returns-in_err-same-clause-leaves c = unwritten c.args.name.now c.args.self.now c.call_fails.new.self (search rules) (search rules)
+
+pub returns-in_err-failing-clause-leaves : goal.returns-in_err-failing-clause-leaves
+returns-in_err-failing-clause-leaves c = unwritten c.args.name.now c.args.self.now c.call_fails.new.self (search rules) (search rules)
+
+pub returns-in_err-remember-clause-leaves : goal.returns-in_err-remember-clause-leaves
+returns-in_err-remember-clause-leaves c = unwritten c.args.name.now c.args.self.now c.remember.new.self (search rules) (search rules)

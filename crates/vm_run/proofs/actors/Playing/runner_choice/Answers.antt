@@ -8,13 +8,13 @@ use Rattle.vm_run.proofs.actors.Playing.runner_choice.Goals as goal
 pub choose-requires-clause-list : goal.choose-requires-clause-list
 unfolding grant_of
 choose-requires-clause-list c =
-    let grant : c.min-grant.result ≡ min 1024 (room_of c.args.self.now.run.state.core) = omega (arith, c.room.ensures, c.min-grant.ensures) in
+    let grant : c.min-grant.result ≡ min 1024 (room_of c.args.self.now.run.state) = omega (arith, c.room.ensures, c.min-grant.ensures) in
     ap (λ (k : ℕ). Claim 0 ∷ Wake 0 ∷ Turn 0 ∷ Yield 0 ∷ Start 0 ∷ Enter 0 k ∷ Sleep 0 ∷ Exit 0 ∷ Step 0 ∷ []) grant
-    ∙ sym (runner_choices c.args.self.now.run.state.core true c.requires.one (sym c.is_exit_due.ensures ∙ c.if-is_exit_due.true))
+    ∙ sym (runner_choices c.args.self.now.run.state true c.requires.one (sym c.is_exit_due.ensures ∙ c.if-is_exit_due.true))
 
 pub choose-requires-else-is_exit_due-clause-list : goal.choose-requires-else-is_exit_due-clause-list
 unfolding grant_of
 choose-requires-else-is_exit_due-clause-list c =
-    let grant : c.min-grant.result ≡ min 1024 (room_of c.args.self.now.run.state.core) = omega (arith, c.room.ensures, c.min-grant.ensures) in
+    let grant : c.min-grant.result ≡ min 1024 (room_of c.args.self.now.run.state) = omega (arith, c.room.ensures, c.min-grant.ensures) in
     ap (λ (k : ℕ). Claim 0 ∷ Wake 0 ∷ Turn 0 ∷ Yield 0 ∷ Start 0 ∷ Enter 0 k ∷ Sleep 0 ∷ Step 0 ∷ []) grant
-    ∙ sym (runner_choices c.args.self.now.run.state.core false c.requires.one (sym c.is_exit_due.ensures ∙ c.if-is_exit_due.false))
+    ∙ sym (runner_choices c.args.self.now.run.state false c.requires.one (sym c.is_exit_due.ensures ∙ c.if-is_exit_due.false))

@@ -2,9 +2,8 @@ use Rattle.std.proofs.Common.{◌≡◌, ◌∙◌, sym, ap, length, false, List
 use Rattle.vm_law.specs.declared.journal.Signed.{Signed}
 use Rattle.vm_machine.specs.History.{after_all}
 use Rattle.vm_machine.specs.Rounds.{chosen, brought_back}
-use Rattle.vm_run.proofs.Continued.{returned_lawful, returned_state}
-use Rattle.vm_machine.specs.declared.state.Core.{Core}
-use Rattle.vm_machine.specs.Table.{State}
+use Rattle.vm_run.proofs.Continued.{returned_lawful, returned_orderly, returned_state}
+use Rattle.vm_machine.specs.State.{State}
 use Rattle.vm_run.specs.Actors.{by_choice, by_return, returned}
 use Rattle.vm_run.specs.Single.{IsSingle}
 use Rattle.vm_run.proofs.Controls.{single_length, single_back, returns_from, goes_out}
@@ -13,33 +12,33 @@ use Rattle.vm_run.proofs.actors.Playing.runner_turn.Goals as goal
 pub runner_choice-requires-clause-one : goal.runner_choice-requires-clause-one
 runner_choice-requires-clause-one c =
     let here = single_back c.args.self.now.run.state c.args.away c.requires.single c.requires.away in
-    ap (λ (t : State). length t.core.machine.cpus) c.bring_back.ensures.state ∙ single_length _ here
+    ap (λ (t : State). length t.machine.cpus) c.bring_back.ensures.state ∙ single_length _ here
 
 pub go_out-requires : goal.go_out-requires
 go_out-requires c =
     let r = returns_from c.args.self.now.run.state c.args.away c.requires.single c.requires.going c.requires.away in
     let same : c.runner_choice.new.self.run.state ≡ by_return c.args.self.now.run.state c.args.away.count = c.runner_choice.ensures.state ∙ ap (λ (t : State). by_choice t 1) c.bring_back.ensures.state in
-    ap (λ (t : State). length t.core.machine.cpus) same ∙ ap (λ (s : Core). length s.machine.cpus) r.is
+    ap (λ (t : State). length t.machine.cpus) same ∙ ap (λ (s : State). length s.machine.cpus) r.is
 
 pub returns-clause-single : goal.returns-clause-single
 returns-clause-single c =
     let r = returns_from c.args.self.now.run.state c.args.away c.requires.single c.requires.going c.requires.away in
     let same : c.runner_choice.new.self.run.state ≡ by_return c.args.self.now.run.state c.args.away.count = c.runner_choice.ensures.state ∙ ap (λ (t : State). by_choice t 1) c.bring_back.ensures.state in
-    record { one = r.to; is = ap (λ (t : State). t.core) same ∙ r.is; fits = r.fits }
+    record { one = r.to; is = ap (λ (t : State). t) same ∙ r.is; fits = r.fits }
 
 pub returns-clause-going : goal.returns-clause-going
 returns-clause-going c =
     let r = returns_from c.args.self.now.run.state c.args.away c.requires.single c.requires.going c.requires.away in
     let same : c.runner_choice.new.self.run.state ≡ by_return c.args.self.now.run.state c.args.away.count = c.runner_choice.ensures.state ∙ ap (λ (t : State). by_choice t 1) c.bring_back.ensures.state in
-    ap (λ (t : State). t.core.closed) same ∙ ap (λ (s : Core). s.closed) r.is ∙ r.going
+    ap (λ (t : State). t.closed) same ∙ ap (λ (s : State). s.closed) r.is ∙ r.going
 
 pub returns-clause-away : goal.returns-clause-away
 returns-clause-away c =
     let r = returns_from c.args.self.now.run.state c.args.away c.requires.single c.requires.going c.requires.away in
     let same : c.runner_choice.new.self.run.state ≡ by_return c.args.self.now.run.state c.args.away.count = c.runner_choice.ensures.state ∙ ap (λ (t : State). by_choice t 1) c.bring_back.ensures.state in
-    let single : IsSingle c.runner_choice.new.self.run.state.core = record { one = r.to; is = ap (λ (t : State). t.core) same ∙ r.is; fits = r.fits } in
-    let going : c.runner_choice.new.self.run.state.core.closed ≡ false = ap (λ (t : State). t.core.closed) same ∙ ap (λ (s : Core). s.closed) r.is ∙ r.going in
-    goes_out c.runner_choice.new.self.run.state.core c.go_out.result single going c.go_out.ensures.count c.go_out.ensures.ran
+    let single : IsSingle c.runner_choice.new.self.run.state = record { one = r.to; is = ap (λ (t : State). t) same ∙ r.is; fits = r.fits } in
+    let going : c.runner_choice.new.self.run.state.closed ≡ false = ap (λ (t : State). t.closed) same ∙ ap (λ (s : State). s.closed) r.is ∙ r.going in
+    goes_out c.runner_choice.new.self.run.state c.go_out.result single going c.go_out.ensures.count c.go_out.ensures.ran
 
 pub returns-clause-continues : goal.returns-clause-continues
 returns-clause-continues c =
@@ -48,9 +47,10 @@ returns-clause-continues c =
       added = returned c.args.self.now.run.state c.args.away.count;
       history =
           c.runner_choice.ensures.history
-          ∙ ap (λ (t : State). c.bring_back.new.self.entries.items ++ chosen t.core 1) c.bring_back.ensures.state
-          ∙ ap (λ (l : List Signed). l ++ chosen (after_all c.args.self.now.run.state (brought_back 0 c.args.away.count)).core 1) c.bring_back.ensures.history
-          ∙ append_assoc c.args.self.now.entries.items (brought_back 0 c.args.away.count) (chosen (after_all c.args.self.now.run.state (brought_back 0 c.args.away.count)).core 1);
+          ∙ ap (λ (t : State). c.bring_back.new.self.entries.items ++ chosen t 1) c.bring_back.ensures.state
+          ∙ ap (λ (l : List Signed). l ++ chosen (after_all c.args.self.now.run.state (brought_back 0 c.args.away.count)) 1) c.bring_back.ensures.history
+          ∙ append_assoc c.args.self.now.entries.items (brought_back 0 c.args.away.count) (chosen (after_all c.args.self.now.run.state (brought_back 0 c.args.away.count)) 1);
       lawful = returned_lawful c.args.self.now.run.state c.args.away c.requires.away;
+      orderly = returned_orderly c.args.self.now.run.state c.args.away c.requires.away;
       state = same ∙ sym (returned_state c.args.self.now.run.state c.args.away.count);
     }

@@ -1,0 +1,5 @@
+pub mod Progress
+pub mod Queue
+pub mod Steps
+pub mod Sound
+pub mod Starts

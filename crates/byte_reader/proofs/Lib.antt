@@ -1,0 +1,4 @@
+pub mod Counted
+pub mod Readers
+pub mod Repeated
+pub mod Texts

@@ -1,0 +1,1 @@
+-- The promise of writing a text, from its steps.

@@ -1,0 +1,43 @@
+-- A file that is read piece by piece, a text that is handed out piece by piece, and counts and a name that stay over a call.
+use Rattle.std.proofs.Common.{◌≡◌, Ok, Option, Some, None, IsSomeAnd, refl, inl, inr, ℕ, ◌+◌, ◌-◌, ◌<◌, ◌≤◌, List, drop, append_assoc, length-drop, ◌++◌, length, take, sym, ◌∙◌, ap, arith, length-append, length-take}
+use Rattle.std.proofs.Math.Seq.{take-add}
+use Rattle.std.proofs.lemmas.List.{take_all}
+use Rattle.std.proofs.lemmas.Bool.{cases_lt}
+use Rattle.vm_host.specs.Counts.{HasCause}
+use Rattle.vm_host.specs.Files.{ReadsFrom}
+use Rattle.vm_host.specs.Views.{HostView}
+
+-- a piece more
+pub read_more : (bytes file buffer : List ℕ) (n : ℕ) → bytes ≡ take (length bytes) file → ReadsFrom file (length bytes) buffer n → bytes ++ take n buffer ≡ take (length (bytes ++ take n buffer)) file
+read_more bytes file buffer n so_far reads =
+    let fits : length (take n buffer) ≡ n = omega (arith, length-take n buffer, reads.count) in
+    let size : length (bytes ++ take n buffer) ≡ length bytes + n = omega (arith, length-append bytes (take n buffer), fits) in
+    ap (λ (l : List ℕ). l ++ take n buffer) so_far
+    ∙ ap (λ (l : List ℕ). take (length bytes) file ++ l) reads.bytes
+    ∙ sym (take-add (length bytes) n file)
+    ∙ ap (λ (k : ℕ). take k file) (sym size)
+
+-- nothing more
+pub read_all : (bytes file buffer : List ℕ) → bytes ≡ take (length bytes) file → 0 < length buffer → ReadsFrom file (length bytes) buffer 0 → file ≡ bytes
+read_all bytes file buffer so_far room reads =
+    sym (so_far ∙ take_all (length bytes) file (omega (arith, reads.count)))
+
+-- the value that is there
+pub there : {X : Type 0} (o : Option X) (P : X → Type 0) → IsSomeAnd o P → (x : X) × (o ≡ Some x) × P x
+there (Some x) P h = (x, refl, h)
+there None P h = absurd h
+
+-- a piece more was taken of what is left behind place i
+pub took_more : (taken bytes : List ℕ) (i n : ℕ) → i ≤ length bytes → (taken ++ take i bytes) ++ take n (take (length bytes - i) (drop i bytes)) ≡ taken ++ take (i + n) bytes
+took_more taken bytes i n le =
+    let all : take (length bytes - i) (drop i bytes) ≡ drop i bytes = take_all (length bytes - i) (drop i bytes) (omega (arith, length-drop i bytes)) in
+    ap (λ (l : List ℕ). (taken ++ take i bytes) ++ take n l) all
+    ∙ append_assoc taken (take i bytes) (take n (drop i bytes))
+    ∙ ap (λ (l : List ℕ). taken ++ l) (sym (take-add i n bytes))
+
+-- a call with an answer counts nothing, and the name of the last failure stays
+pub quiet : {T : Type 0} (name : List ℕ) (old new : HostView) (x : T) → HasCause name old new (Ok x) → (new.faults ≡ old.faults) × (new.misses ≡ old.misses) × (new.failed ≡ old.failed)
+quiet name old new x cause =
+    let same : new.faults ≡ old.faults = elim (cases_lt old.faults new.faults) [ inl lt ↦ absurd (let bad = cause.only_failed lt in cc) | inr le ↦ omega (arith, cause.later) ] in
+    let same_misses : new.misses ≡ old.misses = elim (cases_lt old.misses new.misses) [ inl lt ↦ absurd (let bad = cause.only_missing lt in cc) | inr le ↦ omega (arith, cause.later_misses) ] in
+    (same, same_misses, cause.still_named (λ failed. absurd cc))

@@ -1,0 +1,4 @@
+pub mod Writes
+pub mod Links
+pub mod Rings
+pub mod Reached

@@ -1,0 +1,74 @@
+use crate::{
+    Code, Next, Table, all_local, keep_at, look_local, next_of, run_many, run_slice, stands_local,
+    step_local, writes_change_only,
+};
+use guest_ram::GuestRam;
+use std::test::Fail;
+use vm_law::{Ctx, FlatImage, Seq};
+
+/// mov eax, 5; add eax, eax; hlt.
+const CODE: [u8; 8] = [0xB8, 5, 0, 0, 0, 0x01, 0xC0, 0xF4];
+
+const START: Ctx = Ctx {
+    regs: [0; 16],
+    rip: 0,
+    rflags: 2,
+    idt_base: 0,
+    idt_limit: 0,
+    shadow: false,
+    nmi_block: false,
+};
+
+/// A mebibyte of memory that begins with the code.
+fn memory(rt: &HostRuntime) -> Result<GuestRam, Fail> {
+    let payload = Seq::from_slice(rt.alloc(), &CODE)?;
+    let image = FlatImage {
+        entry: 0,
+        code: 8,
+        payload,
+    };
+    Ok(GuestRam::new(rt.alloc(), 1048576, &image)?)
+}
+
+/// Two instructions are local, the third isn't, and behind it the code ends.
+#[test]
+fn a_slice(rt: HostRuntime) -> Result<(), Fail> {
+    let ram = memory(&rt)?;
+    let mut table = Table::new(rt.alloc())?;
+    let mut ctx = START;
+    assert!(rt; all_local(&ram, &table, &ctx, 2) && !all_local(&ram, &table, &ctx, 3));
+    assert!(rt; stands_local(&ram, &table, &ctx));
+    assert!(rt; run_slice(&ram, &mut table, &mut ctx, 9) == 2);
+    assert!(rt; ctx.regs[0] == 10 && ctx.rip == 7);
+    assert!(rt; matches!(next_of(&ram, &table, &ctx), Next::Shared { len: 1, .. }));
+    assert!(rt; !step_local(&ram, &mut table, &mut ctx) && !look_local(&ram, &table, &mut ctx));
+    ctx.rip = 8;
+    assert!(rt; next_of(&ram, &table, &ctx) == Next::OutOfCode);
+    let mut again = START;
+    run_many(&ram, &mut table, &mut again, 2);
+    assert!(rt; again.regs[0] == 10 && again.rip == 7);
+    Ok(())
+}
+
+/// What a table keeps, and what it forgets: an instruction that a changed byte may belong to.
+#[test]
+fn a_table(rt: HostRuntime) -> Result<(), Fail> {
+    writes_change_only();
+    let ram = memory(&rt)?;
+    let mut table = Table::new(rt.alloc())?;
+    let mut bytes = [0; 15];
+    assert!(rt; Code::fetch(&ram, 5, &mut bytes) == 3);
+    keep_at(&ram, &mut table, 5);
+    let found = *table.kept(5).ok_or("not kept")?;
+    assert!(rt; found.len == 2 && found.local && table.kept(0).is_none());
+    table.keep(4101, found.insn, 2);
+    assert!(rt; table.kept(5).is_none() && table.kept(4101).is_some());
+    table.forget(4116, 1);
+    assert!(rt; table.kept(4101).is_some());
+    table.forget(4115, 1);
+    assert!(rt; table.kept(4101).is_none());
+    table.keep(7, found.insn, 1);
+    table.clear();
+    assert!(rt; table.kept(7).is_none());
+    Ok(())
+}
