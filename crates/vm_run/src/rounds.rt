@@ -145,6 +145,3 @@ pub(crate) fn play<S: Sink>(
         end,
     })
 }
-
-#[cfg(test)]
-mod tests;

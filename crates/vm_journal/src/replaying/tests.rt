@@ -25,23 +25,6 @@ const HISTORY: [(u16, Entry); 9] = [
     (0, Entry::Close),
 ];
 
-/// Places of the history's entries, and where their list has its first bad entry.
-static LISTS: [(&[usize], Option<u64>); 13] = [
-    (&[0, 1, 2, 3, 4, 5, 6, 7, 8], None),
-    (&[], None),
-    (&[0, 1, 2, 3, 4, 5, 6, 7], None),
-    (&[0, 2, 1, 3, 4, 5, 6, 7, 8], Some(1)),
-    (&[1, 2, 3, 4, 5, 6, 7, 8], Some(0)),
-    (&[0, 2, 3, 4, 5, 6, 7, 8], Some(1)),
-    (&[0, 1, 3, 4, 5, 6, 7, 8], Some(2)),
-    (&[0, 1, 2, 4, 5, 6, 7, 8], Some(4)),
-    (&[0, 1, 2, 3, 4, 6, 7, 8], Some(6)),
-    (&[0, 1, 2, 3, 4, 5, 7, 8], Some(6)),
-    (&[0, 1, 2, 3, 4, 5, 6, 8], Some(7)),
-    (&[0, 1, 2, 3, 4, 5, 6, 7, 8, 8], Some(9)),
-    (&[0, 0, 1, 2], Some(1)),
-];
-
 fn plan_of(alloc: Global) -> Plan
     ensures cpus { result.cpus ≡ 1 }
     ensures memory { result.memory ≡ 268435456 }
@@ -91,23 +74,6 @@ fn journal_of(alloc: Global, places: &[usize]) -> Result<Journal, OutOfMemory> {
     Ok(journal)
 }
 
-/// The place of the first bad entry; `None` where there is none.
-fn first_bad(alloc: Global, places: &[usize]) -> Result<Option<u64>, OutOfMemory> {
-    match replay(alloc, &one_byte(alloc)?, &journal_of(alloc, places)?) {
-        Ok(_) => Ok(None),
-        Err(ReplayError::BadEntry { at }) => Ok(Some(at)),
-        Err(ReplayError::Memory) => Err(OutOfMemory),
-    }
-}
-
-#[test]
-fn the_first_bad_entry_is_named(rt: HostRuntime) -> Result<(), Fail> {
-    for (places, bad) in LISTS.iter() {
-        assert_eq!(rt; first_bad(rt.alloc(), places)?, *bad);
-    }
-    Ok(())
-}
-
 #[test]
 fn a_history_gives_its_run(rt: HostRuntime) -> Result<(), Fail> {
     let journal = journal_of(rt.alloc(), &[0, 1, 2, 3, 4, 5, 6, 7, 8])?;
@@ -122,7 +88,7 @@ fn a_history_gives_its_run(rt: HostRuntime) -> Result<(), Fail> {
     Ok(())
 }
 
-/// The run before the first bad entry, which is the second OUT, stands with the place.
+/// The run before the first bad entry stands with its place.
 #[test]
 fn the_front_of_a_history_is_kept(rt: HostRuntime) -> Result<(), Fail> {
     let journal = journal_of(rt.alloc(), &[0, 1, 2, 3, 3, 3])?;
