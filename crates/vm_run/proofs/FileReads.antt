@@ -1,5 +1,5 @@
 -- What a file that couldn't be read whole says.
-use Rattle.std.proofs.Common.{◌≡◌, ℕ, ◌<◌, Bool, true, false, List, [], length, Option, None, Result, Ok, Err, IsSomeAnd, IsErrOf, refl, ap, subst, sym, arith}
+use Rattle.std.proofs.Common.{◌≡◌, ℕ, zero, suc, ◌<◌, Bool, true, false, List, [], ◌∷◌, take, length, slice_get, Option, Some, None, Result, Ok, Err, IsSomeAnd, IsErrOf, refl, ap, subst, sym, ◌∙◌, arith}
 use Rattle.std.specs.Result.{IsErrAnd}
 use Rattle.vm_law.specs.declared.journal.Signed.{Signed}
 use Rattle.vm_host.specs.Told.{WhereTold}
@@ -9,7 +9,8 @@ use Rattle.ckpt_store.specs.declared.loading.LoadFault.TheVariants as loading
 use Rattle.vm_machine.specs.declared.start.Start.{Start}
 use Rattle.vm_run.specs.declared.ending.Fault.{Fault}
 use Rattle.vm_run.specs.Ends.{after_load}
-use Rattle.vm_run.specs.Files.{Reads, IsRefused, IsJournal}
+use Rattle.ckpt_store.specs.Loading.{IsGatedFront}
+use Rattle.vm_run.specs.Files.{Reads, IsFileOf, IsRefused, IsJournal}
 use Rattle.vm_run.specs.Starting.{IsStart}
 use Rattle.vm_run.proofs.Pieces.{there}
 
@@ -57,3 +58,47 @@ long_is_no_journal bytes journal lt j = omega (arith, j.short)
 
 pub nothing_is_no_journal : (journal : List Signed) → IsJournal [] journal → ⊥
 nothing_is_no_journal journal j = omega (arith, ap length j.spelled)
+
+-- a journal's bytes begin with the gate that is open
+journal_begins : (bytes : List ℕ) (journal : List Signed) → IsJournal bytes journal → slice_get bytes 0 ≡ Some 1
+journal_begins bytes journal j = ap (λ (b : List ℕ). slice_get b 0) j.spelled
+
+none_is_none : None {A = ℕ} ≡ Some 1 → ⊥
+none_is_none e = cc
+
+-- what was read of a file behind a gate is the whole file where it begins with the gate that is open
+gated_whole : (file bytes : List ℕ) → IsGatedFront file bytes → slice_get bytes 0 ≡ Some 1 → file ≡ bytes
+gated_whole [] bytes front e =
+    let shut : bytes ≡ [] = front.is_shut none_is_none in
+    absurd (none_is_none (sym (ap (λ (b : List ℕ). slice_get b 0) shut) ∙ e))
+gated_whole (zero ∷ rest) bytes front e =
+    let shut : bytes ≡ zero ∷ [] = front.is_shut (λ h. let i : Some zero ≡ Some 1 = h in cc) in
+    let i : Some zero ≡ Some 1 = sym (ap (λ (b : List ℕ). slice_get b 0) shut) ∙ e in absurd cc
+gated_whole (suc zero ∷ rest) bytes front e = sym (front.is_open refl)
+gated_whole (suc (suc n) ∷ rest) bytes front e =
+    let shut : bytes ≡ suc (suc n) ∷ [] = front.is_shut (λ h. let i : Some (suc (suc n)) ≡ Some 1 = h in cc) in
+    let i : Some (suc (suc n)) ≡ Some 1 = sym (ap (λ (b : List ℕ). slice_get b 0) shut) ∙ e in absurd cc
+
+module _ (told : Bool) (file : Option (List ℕ)) (bytes : List ℕ) (front : WhereTold told (IsSomeAnd file (λ f. IsGatedFront f bytes))) where
+  pub gated_file : (journal : List Signed) → IsJournal bytes journal → IsFileOf told file IsJournal journal
+  gated_file journal j = record {
+    bytes = bytes;
+    is_file = λ t. (let found = there file (λ f. IsGatedFront f bytes) (front t) in
+        found.1 ∙ ap (λ (b : List ℕ). Some b) (gated_whole found.0 bytes found.2 (journal_begins bytes journal j)));
+    means = j;
+  }
+
+  gated_refused : (t : Bool) → (t ≡ true → IsSomeAnd file (λ f. IsGatedFront f bytes))
+      → ((journal : List Signed) → IsJournal bytes journal → ⊥) → IsRefused t file IsJournal
+  gated_refused true told_front none =
+      let found = there file (λ f. IsGatedFront f bytes) (told_front refl) in
+      record {
+        bytes = found.0;
+        is_file = λ _. found.1;
+        none = λ journal j. none journal (subst (λ (b : List ℕ). IsJournal b journal) (sym (found.2.is_open (journal_begins found.0 journal j))) j);
+      }
+  gated_refused false told_front none =
+      record { bytes = bytes; is_file = λ t. absurd (let e : false ≡ true = t in cc); none = none }
+
+  pub gated_nothing : ((journal : List Signed) → IsJournal bytes journal → ⊥) → IsRefused told file IsJournal
+  gated_nothing none = gated_refused told front none

@@ -9,7 +9,7 @@ ghost use Rattle.vm_run.specs.Ends.{HasHostCauses, status_of};
 ghost use Rattle.vm_run.specs.Files.{IsJournal, Reads};
 
 use crate::ending::Fault;
-use ckpt_store::{load, save};
+use ckpt_store::{load_gated, save};
 use std::alloc::Global;
 use vm_host::{Host, HostFault};
 use vm_journal::{decode, encode, entries_fit};
@@ -18,7 +18,7 @@ use vm_law::Journal;
 /// How many bytes the file of a journal has at most: 4 GiB.
 const JOURNAL_LIMIT: u64 = 4_294_967_296;
 
-/// The journal in a file.
+/// The journal in a file. Of one whose gate is shut the first byte alone is read.
 pub(crate) fn journal_from<H: Host>(
     alloc: Global,
     host: &mut H,
@@ -28,7 +28,7 @@ pub(crate) fn journal_from<H: Host>(
     ensures causes { HasHostCauses name.now (status_of result) (H.seen host.old) (H.seen host.new) }
     ensures leaves { ReadsHost (H.seen host.old) (H.seen host.new) }
 {
-    let bytes = load(alloc, host, name, JOURNAL_LIMIT)?;
+    let bytes = load_gated(alloc, host, name, JOURNAL_LIMIT)?;
     let journal = decode(alloc, &bytes)?;
     entries_fit(&journal);
     Ok(journal)
