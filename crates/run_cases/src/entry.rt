@@ -31,18 +31,40 @@ fn plain_entry(name: &str) -> Result<Entry, CaseError> {
 /// An entry of one field.
 fn entry_of_one(name: &str, field: &str) -> Result<Entry, CaseError> {
     Ok(match name {
-        "claim" => Entry::Claim { cpu: small_of(field)? },
-        "start" => Entry::Start { cpu: small_of(field)? },
-        "step" => Entry::Step { cpu: small_of(field)? },
-        "exit" => Entry::Exit { cpu: small_of(field)? },
-        "sleep" => Entry::Sleep { cpu: small_of(field)? },
-        "wake" => Entry::Wake { cpu: small_of(field)? },
-        "yield" => Entry::Yield { cpu: small_of(field)? },
-        "turn" => Entry::Turn { cpu: small_of(field)? },
-        "pull" => Entry::Pull { disk: small_of(field)? },
+        "claim" => Entry::Claim {
+            cpu: small_of(field)?,
+        },
+        "start" => Entry::Start {
+            cpu: small_of(field)?,
+        },
+        "step" => Entry::Step {
+            cpu: small_of(field)?,
+        },
+        "exit" => Entry::Exit {
+            cpu: small_of(field)?,
+        },
+        "sleep" => Entry::Sleep {
+            cpu: small_of(field)?,
+        },
+        "wake" => Entry::Wake {
+            cpu: small_of(field)?,
+        },
+        "yield" => Entry::Yield {
+            cpu: small_of(field)?,
+        },
+        "turn" => Entry::Turn {
+            cpu: small_of(field)?,
+        },
+        "pull" => Entry::Pull {
+            disk: small_of(field)?,
+        },
         "done" => Entry::Done { k: word_of(field)? },
-        "tick" => Entry::Tick { n: number_of(field)? },
-        "end" => Entry::End { why: cause_of(field)? },
+        "tick" => Entry::Tick {
+            n: number_of(field)?,
+        },
+        "end" => Entry::End {
+            why: cause_of(field)?,
+        },
         _ => return Err(CaseError::Form),
     })
 }
@@ -59,14 +81,40 @@ fn cause_of(name: &str) -> Result<EndCause, CaseError> {
 fn entry_of_more(name: &str, first: &str, second: &str) -> Result<Entry, CaseError> {
     let first = small_of(first)?;
     Ok(match name {
-        "enter" => Entry::Enter { cpu: first, grant: word_of(second)? },
-        "slice" => Entry::Slice { cpu: first, n: word_of(second)? },
-        "begin" => Entry::Begin { disk: first, id: id_of(second)? },
-        "move" => Entry::Move { disk: first, id: id_of(second)? },
-        "hold" => Entry::Hold { disk: first, id: id_of(second)? },
-        "finish" => Entry::Finish { disk: first, id: id_of(second)? },
-        "put" => Entry::Put { disk: first, id: id_of(second)?, ok: true },
-        "lost" => Entry::Put { disk: first, id: id_of(second)?, ok: false },
+        "enter" => Entry::Enter {
+            cpu: first,
+            grant: word_of(second)?,
+        },
+        "slice" => Entry::Slice {
+            cpu: first,
+            n: word_of(second)?,
+        },
+        "begin" => Entry::Begin {
+            disk: first,
+            id: id_of(second)?,
+        },
+        "move" => Entry::Move {
+            disk: first,
+            id: id_of(second)?,
+        },
+        "hold" => Entry::Hold {
+            disk: first,
+            id: id_of(second)?,
+        },
+        "finish" => Entry::Finish {
+            disk: first,
+            id: id_of(second)?,
+        },
+        "put" => Entry::Put {
+            disk: first,
+            id: id_of(second)?,
+            ok: true,
+        },
+        "lost" => Entry::Put {
+            disk: first,
+            id: id_of(second)?,
+            ok: false,
+        },
         _ => return Err(CaseError::Form),
     })
 }
@@ -117,13 +165,21 @@ fn print_entry(entry: &Entry, out: &mut String) -> Result<(), AllocError> {
         Entry::Move { disk, id } => write!(out, "move:{disk}:{id}"),
         Entry::Hold { disk, id } => write!(out, "hold:{disk}:{id}"),
         Entry::Put { disk, id, ok: true } => write!(out, "put:{disk}:{id}"),
-        Entry::Put { disk, id, ok: false } => write!(out, "lost:{disk}:{id}"),
+        Entry::Put {
+            disk,
+            id,
+            ok: false,
+        } => write!(out, "lost:{disk}:{id}"),
         Entry::Finish { disk, id } => write!(out, "finish:{disk}:{id}"),
         Entry::Feed => out.push_str("feed"),
         Entry::Wish => out.push_str("wish"),
         Entry::Done { k } => write!(out, "done:{k}"),
-        Entry::End { why: EndCause::Budget } => out.push_str("end:budget"),
-        Entry::End { why: EndCause::Outside } => out.push_str("end:outside"),
+        Entry::End {
+            why: EndCause::Budget,
+        } => out.push_str("end:budget"),
+        Entry::End {
+            why: EndCause::Outside,
+        } => out.push_str("end:outside"),
         Entry::Close => out.push_str("close"),
         Entry::Tick { n } => write!(out, "tick:{n}"),
     }

@@ -6,8 +6,8 @@ use crate::case::{CaseError, bytes_of, number_of, small_of};
 use crate::entry::{journal_of, signed_of};
 use std::alloc::Global;
 use std::fmt::Write;
-use vm_law::{Bytes, Entry, FlatImage, Order, OutOfMemory, Owned, Plan, Seq, Signed, Text};
 use vm_journal::{ReplayError, Replayed, replay, replay_front};
+use vm_law::{Bytes, Entry, FlatImage, Order, OutOfMemory, Owned, Plan, Seq, Signed, Text};
 use vm_machine::{Cpu, Origin, Run, Start, Why};
 
 /// A guest that goes step by step from its start on.
@@ -174,7 +174,8 @@ impl Guest {
 
     fn cpu(&self, digits: &str) -> Result<&Cpu, CaseError> {
         let cpus = self.run.machine().cpus.as_slice();
-        cpus.get(usize::from(small_of(digits)?)).ok_or(CaseError::Form)
+        cpus.get(usize::from(small_of(digits)?))
+            .ok_or(CaseError::Form)
     }
 
     /// Prints a register.
