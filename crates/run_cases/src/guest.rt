@@ -8,7 +8,7 @@ use std::alloc::Global;
 use std::fmt::Write;
 use vm_journal::{ReplayError, Replayed, replay, replay_front};
 use vm_law::{Bytes, Entry, FlatImage, Order, OutOfMemory, Owned, Plan, Seq, Signed, Text};
-use vm_machine::{Cpu, Origin, Run, Start, Why};
+use vm_machine::{Cpu, Next, Origin, Run, Start, Why, all_local, next_of};
 
 /// A guest that goes step by step from its start on.
 #[derive(Drop)]
@@ -235,6 +235,39 @@ impl Guest {
         Ok(())
     }
 
+    /// Runs local instructions of a vCPU outside, at most so many, prints how many, and puts their Slice where it is lawful.
+    fn ahead(&mut self, fields: &str, out: &mut String) -> Result<(), CaseError> {
+        let (cpu, most) = fields.split_once(':').ok_or(CaseError::Form)?;
+        let cpu = small_of(cpu)?;
+        let most = u16::from(small_of(most)?);
+        if cpu >= 16 || usize::from(cpu) >= self.run.machine().cpus.len() {
+            return Err(CaseError::Form);
+        }
+        let by = 1 + u16::from(cpu);
+        let mut ctx = self.run.cpu(cpu).ctx;
+        let n = self.run.run_ahead(&mut ctx, most);
+        let slice = Entry::Slice { cpu, n };
+        if self.run.may(by, &slice) {
+            self.run.put_slice(by, cpu, n, ctx);
+        }
+        write!(out, "{n}")?;
+        Ok(())
+    }
+
+    /// Prints the instruction that a vCPU runs next, where it is one.
+    fn next(&self, digits: &str, out: &mut String) -> Result<(), CaseError> {
+        let ctx = &self.cpu(digits)?.ctx;
+        let ram = &self.run.machine().ram;
+        match next_of(ram, ctx) {
+            Next::Local { len, .. } if all_local(ram, ctx, 1) => write!(out, "local:{len}")?,
+            Next::Shared { len, .. } if !all_local(ram, ctx, 1) => write!(out, "shared:{len}")?,
+            Next::Undefined => out.push_str("undefined")?,
+            Next::OutOfCode => out.push_str("end")?,
+            Next::Local { .. } | Next::Shared { .. } => out.push_str("differs")?,
+        }
+        Ok(())
+    }
+
     /// Makes the steps of entries from the start on, and prints the place of the first that isn't lawful. The guest is then
     /// as it is before it.
     fn replay(&mut self, alloc: Global, entries: &str, out: &mut String) -> Result<(), CaseError> {
@@ -291,6 +324,8 @@ impl Guest {
                 let count = run_single(&mut self.run, alloc, number_of(fields)?)?;
                 write!(out, "{count}")?;
             }
+            "ahead" => self.ahead(fields, out)?,
+            "next" => self.next(fields, out)?,
             "replay" => self.replay(alloc, fields, out)?,
             "reg" => self.register(fields, out)?,
             "rip" => write!(out, "{}", self.cpu(fields)?.ctx.rip)?,

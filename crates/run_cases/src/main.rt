@@ -11,6 +11,8 @@
 //! - `guest:CPUS:LIMIT:CODE:BYTES`: a guest with these bytes at the front of its memory, of which the first `CODE` are code.
 //! - `add:ENTRY`, `may:ENTRY`: whether it is lawful; the first makes its step. `play:ENTRIES` makes steps up to the first
 //!   entry that isn't lawful, and gives how many. `single:MOST` makes Slices of one and Steps, for as long as one may.
+//! - `ahead:CPU:MOST`: runs local instructions of a vCPU outside, puts their Slice where it is lawful, and gives how many
+//!   those were. `next:CPU`: what stands next: `local` or `shared` and its length, `undefined`, or `end`.
 //! - `replay:ENTRIES`: replays them from the start on: `ok`, or `bad:PLACE`; the guest is then as before the bad entry.
 //! - `console`, `executed`, `ended`, `closed`, `quiet`, `place`, `room`, `code`, `reg:CPU:NUMBER`, `rip:CPU`, `halted:CPU`,
 //!   `stage:CPU`, `left:CPU`, `ran:CPU`, `eager:CPU`, `memory:AT:COUNT`, `version:0`: what stands there.

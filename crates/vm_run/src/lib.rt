@@ -19,8 +19,6 @@ mod replaying;
 mod rounds;
 mod solo;
 mod starting;
-#[cfg(test)]
-mod tests;
 mod top;
 
 pub use command::Command;
