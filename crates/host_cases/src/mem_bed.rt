@@ -117,13 +117,14 @@ impl<'a> MemBed<'a> {
 
     /// Gives the image that is open back, where its file stands.
     fn close(&mut self) -> Gave {
-        match self.lent.take() {
-            Some(lent) if self.host.file(lent.name.as_str()).is_some() => {
-                self.host.close_image(lent.name.as_str(), lent.image);
-                Gave::Answer(Answer::Done)
-            }
-            _ => cannot(),
+        let Some(Lent { name, image, .. }) = self.lent.take() else {
+            return cannot();
+        };
+        if self.host.file(name.as_str()).is_none() {
+            return cannot();
         }
+        self.host.close_image(name.as_str(), image);
+        Gave::Answer(Answer::Done)
     }
 
     /// The bytes of a file, without a call that is numbered.

@@ -90,13 +90,11 @@ impl<'a> RealBed<'a> {
 
     /// Gives the image that is open back.
     fn close(&mut self) -> Gave {
-        match self.lent.take() {
-            Some(lent) => {
-                self.host.close_image(lent.name.as_str(), lent.image);
-                Gave::Answer(Answer::Done)
-            }
-            None => cannot(),
-        }
+        let Some(Lent { name, image }) = self.lent.take() else {
+            return cannot();
+        };
+        self.host.close_image(name.as_str(), image);
+        Gave::Answer(Answer::Done)
     }
 
     /// Says who may read and write a file or a folder: NAME:MODE.
