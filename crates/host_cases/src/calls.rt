@@ -2,10 +2,7 @@
 use crate::case::{CaseError, bytes_of, count_of, cut, name_of, number_of};
 use crate::gave::{Gave, done, refused};
 use std::alloc::Global;
-use std::sync::Wait;
-use std::thread::Threads;
-use vm_host::{Host, MemSink, NoGate};
-use vm_run::vmrun;
+use vm_host::Host;
 
 /// A write that a case asks for.
 #[derive(Drop)]
@@ -70,62 +67,10 @@ fn read<H: Host>(alloc: Global, host: &mut H, fields: &str) -> Result<Gave, Case
     }
 }
 
-/// What the last command line left.
-#[derive(Drop)]
-pub struct Ran {
-    /// Its exit status, or 0.
-    pub status: u8,
-    console: MemSink,
-}
-
-impl Ran {
-    /// Before the first command line.
-    pub fn new(alloc: Global) -> Ran {
-        Ran {
-            status: 0,
-            console: MemSink::new(alloc),
-        }
-    }
-
-    /// Runs a command line: WORD|WORD|..
-    fn run<R: Threads + Wait + Sync, H: Host>(
-        &mut self,
-        threads: &R,
-        alloc: Global,
-        host: &mut H,
-        text: &str,
-    ) -> Result<Gave, CaseError> {
-        let mut words = Vec::new(alloc);
-        for word in text.split('|') {
-            words.push(word)?;
-        }
-        self.console = MemSink::new(alloc);
-        let mut log = MemSink::new(alloc);
-        let outcome = vmrun(
-            threads,
-            alloc,
-            &words,
-            host,
-            &mut self.console,
-            &mut log,
-            &NoGate,
-        );
-        self.status = outcome.status;
-        Ok(Gave::Number(outcome.status as u64))
-    }
-
-    /// What its guest wrote.
-    fn console(&self, alloc: Global) -> Result<Gave, CaseError> {
-        Ok(Gave::Bytes(self.console.taken().to_vec(alloc)?))
-    }
-}
-
 /// Carries out a command that needs nothing before it.
-pub fn run_free<R: Threads + Wait + Sync, H: Host>(
-    threads: &R,
+pub fn run_free<H: Host>(
     alloc: Global,
     host: &mut H,
-    ran: &mut Ran,
     command: &str,
     fields: &str,
 ) -> Result<Gave, CaseError> {
@@ -133,8 +78,6 @@ pub fn run_free<R: Threads + Wait + Sync, H: Host>(
         "make" => make(alloc, host, fields),
         "length" => length(alloc, host, fields),
         "read" => read(alloc, host, fields),
-        "run" => ran.run(threads, alloc, host, fields),
-        "console" => ran.console(alloc),
         _ => Err(CaseError::Form),
     }
 }

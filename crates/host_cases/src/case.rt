@@ -1,9 +1,11 @@
 use crate::gave::Gave;
+use crate::ran::Ran;
 use std::alloc::{AllocError, AllocFailed, Global};
 use std::io;
 use std::sync::Wait;
 use std::thread::Threads;
 use thiserror::Error;
+use vm_host::Host;
 use vm_law::OutOfMemory;
 
 /// Why a case wasn't run to its end.
@@ -44,15 +46,15 @@ impl From<io::Error> for CaseError {
 /// How often bytes or a name are repeated at most, and how many bytes are read at once at most.
 const MOST: u64 = 100_000;
 
-/// What carries out commands.
+/// A host on which commands are carried out.
 pub trait Bed {
-    /// Carries out a command with its fields, and answers what it gave. A command line may start threads with `threads`.
-    fn run<R: Threads + Wait + Sync>(
-        &mut self,
-        threads: &R,
-        command: &str,
-        fields: &str,
-    ) -> Result<Gave, CaseError>;
+    type Files: Host;
+
+    /// The host, for a command line.
+    fn files(&mut self) -> &mut Self::Files;
+
+    /// Carries out a command with its fields, and answers what it gave.
+    fn run(&mut self, command: &str, fields: &str) -> Result<Gave, CaseError>;
 }
 
 /// The field before the first colon, and those after it.
@@ -152,6 +154,7 @@ pub fn check<R: Threads + Wait + Sync, B: Bed>(
     threads: &R,
     alloc: Global,
     bed: &mut B,
+    ran: &mut Ran,
     words: &str,
 ) -> Result<String, CaseError> {
     let mut compared = 0u64;
@@ -160,7 +163,11 @@ pub fn check<R: Threads + Wait + Sync, B: Bed>(
             return Err(CaseError::Form);
         };
         let (command, fields) = call.split_once(':').unwrap_or((call, ""));
-        let gave = bed.run(threads, command, fields)?;
+        let gave = match command {
+            "run" => ran.run(threads, alloc, bed.files(), fields)?,
+            "console" => ran.console(alloc)?,
+            _ => bed.run(command, fields)?,
+        };
         if !is_wanted(alloc, &gave, wanted)? {
             let text = gave.text(alloc)?;
             return Ok(format!(in alloc; "differs: {word} gave {text}")?);

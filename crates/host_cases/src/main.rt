@@ -45,12 +45,13 @@ mod calls;
 mod case;
 mod gave;
 mod mem_bed;
+mod ran;
 mod real_bed;
 mod room;
 
-use crate::calls::Ran;
 use crate::case::{CaseError, check};
 use crate::mem_bed::MemBed;
+use crate::ran::Ran;
 use crate::real_bed::RealBed;
 use crate::room::Room;
 use std::io;
@@ -66,7 +67,19 @@ fn mem_outcome<R: Threads + Wait + Sync>(
     ran: &mut Ran,
     words: &str,
 ) -> Result<String, CaseError> {
-    check(threads, rt.alloc(), &mut MemBed::new(rt, ran), words)
+    check(threads, rt.alloc(), &mut MemBed::new(rt), ran, words)
+}
+
+/// What becomes of a case over the files of the folder that the program is in.
+fn folder_outcome<R: Threads + Wait + Sync>(
+    threads: &R,
+    rt: &HostRuntime,
+    room: &Room,
+    ran: &mut Ran,
+    words: &str,
+) -> Result<String, CaseError> {
+    let mut bed = RealBed::new(rt, room)?;
+    check(threads, rt.alloc(), &mut bed, ran, words)
 }
 
 /// What becomes of a case over real files, in a folder of its own.
@@ -78,12 +91,7 @@ fn real_outcome<R: Threads + Wait + Sync>(
     words: &str,
 ) -> Result<String, CaseError> {
     room.enter(rt)?;
-    let text = check(
-        threads,
-        rt.alloc(),
-        &mut RealBed::new(rt, room, ran)?,
-        words,
-    );
+    let text = folder_outcome(threads, rt, room, ran, words);
     room.leave(rt)?;
     text
 }

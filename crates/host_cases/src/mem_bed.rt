@@ -1,11 +1,9 @@
 //! Cases over files in memory.
 ghost use Rattle.std.specs.Prelude.{◌≤◌, ◌*◌, length};
 
-use crate::calls::{Piece, Ran, run_free, sector_of};
+use crate::calls::{Piece, run_free, sector_of};
 use crate::case::{Bed, CaseError, bytes_of, cut, name_of, number_of};
 use crate::gave::{Answer, Gave, cannot, done, done_or_failed, refused};
-use std::sync::Wait;
-use std::thread::Threads;
 use vm_host::{Host, Image, ImageFault, MemHost, MemImage};
 
 /// How many bytes a sector has.
@@ -31,23 +29,21 @@ impl Lent {
     }
 }
 
-/// Files in memory, the image that they have lent, and what the last command line left.
+/// Files in memory, and the image that they have lent.
 #[derive(Drop)]
 pub struct MemBed<'a> {
     rt: &'a HostRuntime,
     host: MemHost,
     lent: Option<Lent>,
-    ran: &'a mut Ran,
 }
 
 impl<'a> MemBed<'a> {
     /// No file.
-    pub fn new(rt: &'a HostRuntime, ran: &'a mut Ran) -> MemBed<'a> {
+    pub fn new(rt: &'a HostRuntime) -> MemBed<'a> {
         MemBed {
             rt,
             host: MemHost::new(rt.alloc()),
             lent: None,
-            ran,
         }
     }
 
@@ -158,12 +154,13 @@ impl<'a> MemBed<'a> {
 }
 
 impl<'a> Bed for MemBed<'a> {
-    fn run<R: Threads + Wait + Sync>(
-        &mut self,
-        threads: &R,
-        command: &str,
-        fields: &str,
-    ) -> Result<Gave, CaseError> {
+    type Files = MemHost;
+
+    fn files(&mut self) -> &mut MemHost {
+        &mut self.host
+    }
+
+    fn run(&mut self, command: &str, fields: &str) -> Result<Gave, CaseError> {
         let alloc = self.rt.alloc();
         match command {
             "write" => self.write(fields),
@@ -180,7 +177,7 @@ impl<'a> Bed for MemBed<'a> {
                 self.host.fail(alloc, number_of(fields)?)?;
                 Ok(Gave::Answer(Answer::Done))
             }
-            _ => run_free(threads, alloc, &mut self.host, self.ran, command, fields),
+            _ => run_free(alloc, &mut self.host, command, fields),
         }
     }
 }

@@ -1,5 +1,5 @@
 //! Cases over the files of the system.
-use crate::calls::{Piece, Ran, run_free, sector_of};
+use crate::calls::{Piece, run_free, sector_of};
 use crate::case::{Bed, CaseError, cut, mode_of, name_of};
 use crate::gave::{Answer, Gave, cannot, done, done_or_failed, refused};
 use crate::room::Room;
@@ -7,8 +7,6 @@ use std::fs::{self, Permissions};
 use std::io;
 use std::os::fd::AsRawFd;
 use std::os::unix::fs::{PermissionsExt, symlink};
-use std::sync::Wait;
-use std::thread::Threads;
 use vm_host::{Host, Image};
 use vm_hostreal::{FileHost, FileImage};
 
@@ -19,25 +17,23 @@ struct Lent {
     image: FileImage,
 }
 
-/// The files of a case's folder, the image that they have lent, and what the last command line left.
+/// The files of a case's folder, and the image that they have lent.
 #[derive(Drop)]
 pub struct RealBed<'a> {
     rt: &'a HostRuntime,
     room: &'a Room,
     host: FileHost,
     lent: Option<Lent>,
-    ran: &'a mut Ran,
 }
 
 impl<'a> RealBed<'a> {
     /// The files of the folder that the program is in.
-    pub fn new(rt: &'a HostRuntime, room: &'a Room, ran: &'a mut Ran) -> io::Result<RealBed<'a>> {
+    pub fn new(rt: &'a HostRuntime, room: &'a Room) -> io::Result<RealBed<'a>> {
         Ok(RealBed {
             rt,
             room,
             host: FileHost::new(rt.clone()?),
             lent: None,
-            ran,
         })
     }
 
@@ -119,12 +115,13 @@ impl<'a> RealBed<'a> {
 }
 
 impl<'a> Bed for RealBed<'a> {
-    fn run<R: Threads + Wait + Sync>(
-        &mut self,
-        threads: &R,
-        command: &str,
-        fields: &str,
-    ) -> Result<Gave, CaseError> {
+    type Files = FileHost;
+
+    fn files(&mut self) -> &mut FileHost {
+        &mut self.host
+    }
+
+    fn run(&mut self, command: &str, fields: &str) -> Result<Gave, CaseError> {
         let alloc = self.rt.alloc();
         match command {
             "write" => self.write(fields),
@@ -138,7 +135,7 @@ impl<'a> Bed for RealBed<'a> {
             "mode" => self.set_mode(fields),
             "link" => self.link(fields),
             "pipe" => self.link_pipe(fields),
-            _ => run_free(threads, alloc, &mut self.host, self.ran, command, fields),
+            _ => run_free(alloc, &mut self.host, command, fields),
         }
     }
 }
