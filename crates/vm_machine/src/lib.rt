@@ -35,6 +35,3 @@ pub use run::Run;
 pub use slices::{all_local, run_slice};
 pub use start::{Origin, Start};
 pub use state::{Cpu, Machine, Meeting, Seat, Why};
-
-#[cfg(test)]
-mod tests;
