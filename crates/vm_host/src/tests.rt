@@ -84,7 +84,7 @@ fn a_sink_that_fails_keeps_what_it_took(rt: HostRuntime) -> Result<(), Fail> {
 #[test]
 fn a_text_comes_in_pieces(rt: HostRuntime) -> Result<(), Fail> {
     let mut text = MemText::new(b"abcdef", 4);
-    let mut into = [0; 5];
+    let mut into = [0; 4100];
     assert_eq!(rt; text.next(&mut into), 4);
     assert_eq!(rt; &into[..4], b"abcd".as_slice());
     assert_eq!(rt; text.next(&mut into), 2);
