@@ -1,5 +1,5 @@
 -- What a file that couldn't be read whole says.
-use Rattle.std.proofs.Common.{◌≡◌, ℕ, zero, suc, ◌<◌, Bool, true, false, List, [], ◌∷◌, take, length, slice_get, Option, Some, None, Result, Ok, Err, IsSomeAnd, IsErrOf, refl, ap, subst, sym, ◌∙◌, arith}
+use Rattle.std.proofs.Common.{◌≡◌, ℕ, zero, suc, ◌<◌, Bool, true, false, List, [], ◌∷◌, length, slice_get, Option, Some, None, Result, Ok, Err, IsSomeAnd, IsErrOf, refl, ap, subst, sym, ◌∙◌, arith}
 use Rattle.std.specs.Result.{IsErrAnd}
 use Rattle.vm_law.specs.declared.journal.Signed.{Signed}
 use Rattle.vm_host.specs.Told.{WhereTold}
@@ -8,7 +8,12 @@ use Rattle.ckpt_store.specs.declared.loading.LoadFault.{LoadFault}
 use Rattle.ckpt_store.specs.declared.loading.LoadFault.TheVariants as loading
 use Rattle.vm_machine.specs.declared.start.Start.{Start}
 use Rattle.vm_run.specs.declared.ending.Fault.{Fault}
-use Rattle.vm_run.specs.Ends.{after_load}
+use Rattle.vm_journal.specs.declared.fault.JournalError.{JournalError}
+use Rattle.vm_journal.specs.declared.fault.JournalError.TheVariants as decoding
+use Rattle.vm_journal.specs.Reading.{Answers}
+use Rattle.vm_journal.specs.Spelling.{spelling, AreEntries}
+use Rattle.vm_run.specs.declared.ending.Fault.TheVariants.{Refused, Memory}
+use Rattle.vm_run.specs.Ends.{after_load, after_decode}
 use Rattle.ckpt_store.specs.Loading.{IsGatedFront}
 use Rattle.vm_run.specs.Files.{Reads, IsFileOf, IsRefused, IsJournal}
 use Rattle.vm_run.specs.Starting.{IsStart}
@@ -63,21 +68,27 @@ nothing_is_no_journal journal j = omega (arith, ap length j.spelled)
 journal_begins : (bytes : List ℕ) (journal : List Signed) → IsJournal bytes journal → slice_get bytes 0 ≡ Some 1
 journal_begins bytes journal j = ap (λ (b : List ℕ). slice_get b 0) j.spelled
 
-none_is_none : None {A = ℕ} ≡ Some 1 → ⊥
-none_is_none e = cc
+is_absent : (o : Option ℕ) → o ≡ None → o ≡ Some 1 → ⊥
+is_absent o none one = let e : (Some 1 ≡ None) = sym one ∙ none in cc
+
+-- a byte that isn't the gate that is open
+is_other : (o : Option ℕ) (n : ℕ) → o ≡ Some n → (n ≡ 1 → ⊥) → o ≡ Some 1 → ⊥
+is_other o n other not one = let e : Some n ≡ Some 1 = sym other ∙ one in not cc
+
+no_gate : (file : List ℕ) → file ≡ [] → slice_get file 0 ≡ Some 1 → ⊥
+no_gate file e one = is_absent (slice_get file 0) (ap (λ (b : List ℕ). slice_get b 0) e) one
+
+other_gate : (file : List ℕ) (n : ℕ) (rest : List ℕ) → file ≡ n ∷ rest → (n ≡ 1 → ⊥) → slice_get file 0 ≡ Some 1 → ⊥
+other_gate file n rest e not one = is_other (slice_get file 0) n (ap (λ (b : List ℕ). slice_get b 0) e) not one
 
 -- what was read of a file behind a gate is the whole file where it begins with the gate that is open
 gated_whole : (file bytes : List ℕ) → IsGatedFront file bytes → slice_get bytes 0 ≡ Some 1 → file ≡ bytes
-gated_whole [] bytes front e =
-    let shut : bytes ≡ [] = front.is_shut none_is_none in
-    absurd (none_is_none (sym (ap (λ (b : List ℕ). slice_get b 0) shut) ∙ e))
+gated_whole [] bytes front e = absurd (no_gate bytes (front.is_shut (no_gate [] refl)) e)
 gated_whole (zero ∷ rest) bytes front e =
-    let shut : bytes ≡ zero ∷ [] = front.is_shut (λ h. let i : Some zero ≡ Some 1 = h in cc) in
-    let i : Some zero ≡ Some 1 = sym (ap (λ (b : List ℕ). slice_get b 0) shut) ∙ e in absurd cc
+    absurd (other_gate bytes zero [] (front.is_shut (other_gate (zero ∷ rest) zero rest refl (λ z. omega (arith, z)))) (λ z. omega (arith, z)) e)
 gated_whole (suc zero ∷ rest) bytes front e = sym (front.is_open refl)
 gated_whole (suc (suc n) ∷ rest) bytes front e =
-    let shut : bytes ≡ suc (suc n) ∷ [] = front.is_shut (λ h. let i : Some (suc (suc n)) ≡ Some 1 = h in cc) in
-    let i : Some (suc (suc n)) ≡ Some 1 = sym (ap (λ (b : List ℕ). slice_get b 0) shut) ∙ e in absurd cc
+    absurd (other_gate bytes (suc (suc n)) [] (front.is_shut (other_gate (suc (suc n) ∷ rest) (suc (suc n)) rest refl (λ z. omega (arith, z)))) (λ z. omega (arith, z)) e)
 
 module _ (told : Bool) (file : Option (List ℕ)) (bytes : List ℕ) (front : WhereTold told (IsSomeAnd file (λ f. IsGatedFront f bytes))) where
   pub gated_file : (journal : List Signed) → IsJournal bytes journal → IsFileOf told file IsJournal journal
@@ -102,3 +113,22 @@ module _ (told : Bool) (file : Option (List ℕ)) (bytes : List ℕ) (front : Wh
 
   pub gated_nothing : ((journal : List Signed) → IsJournal bytes journal → ⊥) → IsRefused told file IsJournal
   gated_nothing none = gated_refused told front none
+
+  -- bytes that aren't decoded
+  not_decoded : (n : ℕ) (r : Result (List Signed) JournalError) (fault : JournalError) (result : Result (List Signed) Fault) → r ≡ Err fault
+      → ((journal : List Signed) → AreEntries journal → bytes ≡ spelling journal → Answers n r (Ok journal))
+      → IsErrAnd result (λ e. e ≡ after_decode fault) → Reads told file IsJournal result
+  not_decoded n r (decoding.Fault at kind) result is only e =
+      subst (λ (x : Result (List Signed) Fault). Reads told file IsJournal x) (sym (err_is result Refused e))
+        (gated_nothing (λ journal j. subst (λ (x : Result (List Signed) JournalError). Answers n x (Ok journal)) is (only journal j.fits j.spelled)))
+  not_decoded n r decoding.Memory result is only e =
+      subst (λ (x : Result (List Signed) Fault). Reads told file IsJournal x) (sym (err_is result Memory e)) tt
+
+-- the same where they stand in another place
+pub decoded_nothing : (told : Bool) (file : Option (List ℕ)) (loaded bytes : List ℕ)
+    → WhereTold told (IsSomeAnd file (λ f. IsGatedFront f loaded)) → bytes ≡ loaded
+    → (n : ℕ) (r : Result (List Signed) JournalError) (fault : JournalError) (result : Result (List Signed) Fault) → r ≡ Err fault
+    → ((journal : List Signed) → AreEntries journal → bytes ≡ spelling journal → Answers n r (Ok journal))
+    → IsErrAnd result (λ e. e ≡ after_decode fault) → Reads told file IsJournal result
+decoded_nothing told file loaded bytes front same =
+    not_decoded told file bytes (subst (λ (b : List ℕ). WhereTold told (IsSomeAnd file (λ f. IsGatedFront f b))) (sym same) front)
