@@ -38,7 +38,7 @@
 //! gave something else. A line that begins with `#` is printed as it is. The exit status is that of the last command line,
 //! 0 where there is none, and 70 where input or output failed. What must come was worked out by hand from the promises of
 //! `vm_host` and POSIX (open(2), pread(2), pwrite(2), fsync(2)), and not by this program, which promises no more than that
-//! it is safe and ends. The cases of rights need a user who is bound by them, which root isn't.
+//! it is safe. The cases of rights need a user who is bound by them, which root isn't.
 #![tactic(auto)]
 
 mod calls;
