@@ -120,7 +120,7 @@ module _ (told : Bool) (file : Option (List ℕ)) (bytes : List ℕ) (front : Wh
       → IsErrAnd result (λ e. e ≡ after_decode fault) → Reads told file IsJournal result
   not_decoded n r (decoding.Fault at kind) result is only e =
       subst (λ (x : Result (List Signed) Fault). Reads told file IsJournal x) (sym (err_is result Refused e))
-        (gated_nothing (λ journal j. subst (λ (x : Result (List Signed) JournalError). Answers n x (Ok journal)) is (only journal j.fits j.spelled)))
+      (gated_nothing (λ journal j. subst (λ (x : Result (List Signed) JournalError). Answers n x (Ok journal)) is (only journal j.fits j.spelled)))
   not_decoded n r decoding.Memory result is only e =
       subst (λ (x : Result (List Signed) Fault). Reads told file IsJournal x) (sym (err_is result Memory e)) tt
 
