@@ -7,7 +7,9 @@ use crate::entry::{journal_of, signed_of};
 use std::alloc::Global;
 use std::fmt::Write;
 use vm_journal::{ReplayError, Replayed, replay, replay_front};
-use vm_law::{Bytes, Entry, FlatImage, Order, OutOfMemory, Owned, Plan, Seq, Signed, Text};
+use vm_law::{
+    Bytes, Entry, FlatImage, Journal, Order, OutOfMemory, Owned, Plan, Seq, Signed, Text,
+};
 use vm_machine::{Cpu, Next, Origin, Run, Start, Why, all_local, next_of};
 
 /// A guest that goes step by step from its start on.
@@ -143,6 +145,38 @@ fn run_single(run: &mut Run, alloc: Global, most: u64) -> Result<u64, OutOfMemor
     Ok(most)
 }
 
+/// The place of the first entry that isn't lawful, where there is one.
+fn first_bad(alloc: Global, start: &Start, journal: &Journal) -> Result<Option<u64>, CaseError>
+    requires { IsSound start.now }
+{
+    match replay(alloc, start, journal) {
+        Ok(_) => Ok(None),
+        Err(ReplayError::BadEntry { at }) => Ok(Some(at)),
+        Err(ReplayError::Memory) => Err(CaseError::Memory),
+    }
+}
+
+/// The run before that entry, with its place.
+fn front_of(
+    alloc: Global,
+    start: &Start,
+    journal: &Journal,
+) -> Result<(Run, Option<u64>), OutOfMemory>
+    requires { IsSound start.now }
+{
+    let Replayed { run, bad } = replay_front(alloc, start, journal)?;
+    Ok((run, bad))
+}
+
+/// Prints the place of a bad entry, or that there is none.
+fn print_bad(bad: Option<u64>, out: &mut String) -> Result<(), CaseError> {
+    match bad {
+        Some(at) => write!(out, "bad:{at}")?,
+        None => out.push_str("ok")?,
+    }
+    Ok(())
+}
+
 /// Prints why a run ended.
 pub fn print_why(why: Option<Why>, out: &mut String) -> Result<(), CaseError> {
     match why {
@@ -273,15 +307,14 @@ impl Guest {
     fn replay(&mut self, alloc: Global, entries: &str, out: &mut String) -> Result<(), CaseError> {
         let journal = journal_of(alloc, entries)?;
         let start = sound_start(alloc, &self.parts)?;
-        let Replayed { run, bad } = replay_front(alloc, &start, &journal)?;
+        let bad = first_bad(alloc, &start, &journal)?;
+        let (run, front_bad) = front_of(alloc, &start, &journal)?;
         self.run = run;
-        match replay(alloc, &start, &journal) {
-            Ok(_) if bad.is_none() => out.push_str("ok")?,
-            Err(ReplayError::BadEntry { at }) if bad == Some(at) => write!(out, "bad:{at}")?,
-            Err(ReplayError::Memory) => return Err(CaseError::Memory),
-            _ => out.push_str("differs")?,
+        if bad == front_bad {
+            print_bad(bad, out)
+        } else {
+            Ok(out.push_str("differs")?)
         }
-        Ok(())
     }
 
     /// Prints what the whole run is asked for.
