@@ -112,19 +112,23 @@ impl Bytes for GuestRam {
 
     ghost spare = { λ r. r.spare };
 
+    #[inline(always)]
     fn size(&self) -> u64 {
         self.places.len() as u64 * PAGE_SIZE as u64
     }
 
+    #[inline(always)]
     fn code(&self) -> u64 {
         self.code
     }
 
+    #[inline(always)]
     fn read(&self, at: u64, into: &mut [u8]) {
         places::read(self.places.as_slice(), at as usize, into);
     }
 
     /// Besides what the trait says, exactly the pages that the piece touches stand afterwards that did not before.
+    #[inline(always)]
     fn write(&mut self, at: u64, piece: &[u8])
         requires inside { at + length piece.now ≤ length self.old.memory.bytes }
         requires short { length piece.now ≤ 512 }

@@ -43,6 +43,7 @@ impl Page {
     }
 
     /// Its bytes.
+    #[inline(always)]
     pub fn bytes(&self) -> &[u8; 4096]
         ensures value { result.now ≡ self.now }
         ensures size { length self.now ≡ 4096 }
@@ -54,6 +55,7 @@ impl Page {
     }
 
     /// Writes a piece over the bytes from an offset on.
+    #[inline(always)]
     pub fn write(&mut self, offset: usize, piece: &[u8])
         requires { offset + length piece.now ≤ 4096 }
         ensures { self.new ≡ written_in self.old offset piece.now }
@@ -64,6 +66,7 @@ impl Page {
 }
 
 /// Each byte of a slice is below 256.
+#[inline(always)]
 pub fn are_bytes(bytes: &[u8])
     ensures { (k : ℕ) → slice_index bytes.now k < 256 }
 {

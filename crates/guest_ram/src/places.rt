@@ -89,6 +89,7 @@ pub fn add_room(alloc: Global, room: &mut Vec<Page>, pages: usize) -> Result<(),
 }
 
 /// Copies bytes that lie in one page.
+#[inline(always)]
 fn read_in(place: &Option<Page>, offset: usize, into: &mut [u8])
     requires page { length (page_of place.now) ≡ 4096 }
     requires inside { offset + length into.old ≤ 4096 }
@@ -101,6 +102,7 @@ fn read_in(place: &Option<Page>, offset: usize, into: &mut [u8])
 }
 
 /// Copies the bytes from an address on.
+#[inline(always)]
 pub fn read(places: &[Option<Page>], at: usize, into: &mut [u8])
     requires pages { ArePages places.now }
     requires inside { at + length into.old ≤ 4096 * length places.now }
@@ -119,6 +121,7 @@ pub fn read(places: &[Option<Page>], at: usize, into: &mut [u8])
 }
 
 /// The same, page by page.
+#[inline(never)]
 fn read_across(places: &[Option<Page>], at: usize, into: &mut [u8])
     requires pages { ArePages places.now }
     requires inside { at + length into.old ≤ 4096 * length places.now }
@@ -140,6 +143,7 @@ fn read_across(places: &[Option<Page>], at: usize, into: &mut [u8])
 }
 
 /// Makes the page at a place stand, with a page of the room where it is absent.
+#[inline(always)]
 pub fn make_stand(places: &mut Vec<Option<Page>>, room: &mut Vec<Page>, number: usize)
     requires place { number < length places.old.items }
     requires room { 1 ≤ length room.old.items }
@@ -149,11 +153,26 @@ pub fn make_stand(places: &mut Vec<Option<Page>>, room: &mut Vec<Page>, number: 
     ensures left { length room.old.items ≤ length room.new.items + 1 }
 {
     if places[number].is_none() {
-        places[number] = room.pop();
+        take_page(places, room, number);
     }
 }
 
+/// Puts a page of the room at an absent place.
+#[inline(never)]
+fn take_page(places: &mut Vec<Option<Page>>, room: &mut Vec<Page>, number: usize)
+    requires place { number < length places.old.items }
+    requires absent { slice_index_or places.old.items number None ≡ None }
+    requires room { 1 ≤ length room.old.items }
+    requires zero { AreZero room.old.items }
+    ensures places { places.new.items ≡ standing_at places.old.items number }
+    ensures zero { AreZero room.new.items }
+    ensures left { length room.old.items ≤ length room.new.items + 1 }
+{
+    places[number] = room.pop();
+}
+
 /// Writes a piece into a page that stands.
+#[inline(always)]
 fn write_in(place: &mut Option<Page>, offset: usize, piece: &[u8])
     requires stands { IsSome place.old }
     requires inside { offset + length piece.now ≤ 4096 }
@@ -165,6 +184,7 @@ fn write_in(place: &mut Option<Page>, offset: usize, piece: &[u8])
 }
 
 /// Writes a piece into a page that stands.
+#[inline(always)]
 fn put(places: &mut Vec<Option<Page>>, number: usize, offset: usize, piece: &[u8])
     requires place { number < length places.old.items }
     requires stands { IsSome (slice_index_or places.old.items number None) }
@@ -175,6 +195,7 @@ fn put(places: &mut Vec<Option<Page>>, number: usize, offset: usize, piece: &[u8
 }
 
 /// Writes a piece that lies in one page, and makes that page stand.
+#[inline(always)]
 fn write_within(places: &mut Vec<Option<Page>>, room: &mut Vec<Page>, at: usize, piece: &[u8])
     requires pages { ArePages places.old.items }
     requires zero { AreZero room.old.items }
@@ -190,7 +211,28 @@ fn write_within(places: &mut Vec<Option<Page>>, room: &mut Vec<Page>, at: usize,
     put(places, at / PAGE_SIZE, at % PAGE_SIZE, piece);
 }
 
+/// Writes a piece that lies in two pages, and makes both stand.
+#[inline(never)]
+fn write_across(places: &mut Vec<Option<Page>>, room: &mut Vec<Page>, at: usize, piece: &[u8])
+    requires pages { ArePages places.old.items }
+    requires zero { AreZero room.old.items }
+    requires across { 4096 < at % 4096 + length piece.now }
+    requires short { length piece.now ≤ 512 }
+    requires inside { at + length piece.now ≤ 4096 * length places.old.items }
+    requires few { length places.old.items ≤ 262144 }
+    requires room { 2 ≤ length room.old.items }
+    ensures written { IsWritten places.old.items places.new.items at piece.now }
+    ensures zero { AreZero room.new.items }
+    ensures left { length room.old.items ≤ length room.new.items + 2 }
+{
+    let left = PAGE_SIZE - at % PAGE_SIZE;
+    let (head, tail) = piece.split_at(left);
+    write_within(places, room, at, head);
+    write_within(places, room, at + left, tail);
+}
+
 /// Writes a piece that lies in at most two pages, and makes those that it touches stand.
+#[inline(always)]
 pub fn write(places: &mut Vec<Option<Page>>, room: &mut Vec<Page>, at: usize, piece: &[u8])
     requires pages { ArePages places.old.items }
     requires zero { AreZero room.old.items }
@@ -202,15 +244,12 @@ pub fn write(places: &mut Vec<Option<Page>>, room: &mut Vec<Page>, at: usize, pi
     ensures zero { AreZero room.new.items }
     ensures left { length room.old.items ≤ length room.new.items + 2 }
 {
-    if piece.len() == 0 {
+    if piece.is_empty() {
         return;
     }
-    let left = PAGE_SIZE - at % PAGE_SIZE;
-    if piece.len() <= left {
+    if piece.len() <= PAGE_SIZE - at % PAGE_SIZE {
         write_within(places, room, at, piece);
     } else {
-        let (head, tail) = piece.split_at(left);
-        write_within(places, room, at, head);
-        write_within(places, room, at + left, tail);
+        write_across(places, room, at, piece);
     }
 }

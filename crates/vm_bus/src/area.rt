@@ -48,14 +48,25 @@ const WINDOW: u64 = 0x1000;
 /// or else `Ram`.
 ///
 /// Source: Intel SDM volume 1, section 3.3.7.1, and volume 3, section 10.4.1; bhyve's `vioapic.h`.
-#[tactic(auto, unfolding(crate::specs::Area::area_of, crate::specs::Area::memory_of))]
+#[inline(always)]
 pub fn area_at(addr: u64, len: u64, code: u64, ram: u64) -> Area
     ensures area { result ≡ spec.area_of addr len code ram }
     ensures within { spec.IsWithin addr len code ram result }
 {
     if addr < DISKS && len <= DISKS - addr {
-        return memory_at(addr, len, code, ram);
+        memory_at(addr, len, code, ram)
+    } else {
+        area_above(addr, len, code, ram)
     }
+}
+
+/// The same of any range, also one below all windows.
+#[inline(never)]
+#[tactic(auto, unfolding(crate::specs::Area::area_of, crate::specs::Area::memory_of))]
+fn area_above(addr: u64, len: u64, code: u64, ram: u64) -> Area
+    ensures area { result ≡ spec.area_of addr len code ram }
+    ensures within { spec.IsWithin addr len code ram result }
+{
     if touches_hole(addr, len) {
         return Area::Noncanonical;
     }
@@ -69,6 +80,7 @@ pub fn area_at(addr: u64, len: u64, code: u64, ram: u64) -> Area
 }
 
 /// What stands at a range that is in no window.
+#[inline(always)]
 #[tactic(auto, unfolding(crate::specs::Area::memory_of))]
 fn memory_at(addr: u64, len: u64, code: u64, ram: u64) -> Area
     ensures area { result ≡ spec.memory_of addr len code ram }
@@ -84,6 +96,7 @@ fn memory_at(addr: u64, len: u64, code: u64, ram: u64) -> Area
 }
 
 /// Whether some byte of a range is outside RAM.
+#[inline(always)]
 fn leaves_ram(addr: u64, len: u64, ram: u64) -> bool
     ensures bytes { result ≡ spec.any_byte (λ a. nat_le ram a) addr len }
     ensures ends { MatchBool result (0 < len) (0 < len → addr + len ≤ ram) }
@@ -92,6 +105,7 @@ fn leaves_ram(addr: u64, len: u64, ram: u64) -> bool
 }
 
 /// Whether some byte of a range is in the code.
+#[inline(always)]
 fn touches_code(addr: u64, len: u64, code: u64) -> bool
     ensures bytes { result ≡ spec.any_byte (λ a. nat_lt a code) addr len }
     ensures ends { MatchBool result (0 < len) (0 < len → code ≤ addr) }
@@ -150,6 +164,7 @@ fn touches_device(addr: u64, len: u64) -> bool
 }
 
 /// Whether some byte of a range is between two addresses, or at one of them.
+#[inline(always)]
 fn touches(addr: u64, len: u64, first: u64, last: u64) -> bool
     requires { first ≤ last }
     ensures bytes { result ≡ spec.any_byte (λ a. nat_le first a && nat_le a last) addr len }

@@ -176,6 +176,9 @@ top_bit a s h fits =
     let below : a < 2 * 2 ^ (s - 1) = subst (λ (x : ℕ). a < x) (whole_is s h) fits in
     top_of a (2 ^ (s - 1)) (pow_pos (s - 1)) below ∙ ap (λ (x : ℕ). nat_le x a) (sym (half_is s h))
 
+pub span_pos : (w : Width) → 0 < span w
+span_pos w = pow_pos (size_of w)
+
 -- an operand has as many values that are negative as others
 pub span_even : (w : Width) → span w ≡ 2 * (span w / 2)
 span_even B = omega arith

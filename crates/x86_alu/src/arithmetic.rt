@@ -1,14 +1,14 @@
-ghost use Rattle.std.specs.Prelude.{◌≡◌, ◌+◌, ◌-◌, ◌%◌, ◌<◌, pos, ◌+ℤ◌, ◌-ℤ◌, not};
+ghost use Rattle.std.specs.Prelude.{◌≡◌, ◌+◌, ◌-◌, ◌%◌, ◌<◌, nat_lt, nat_le, pos, ◌+ℤ◌, ◌-ℤ◌, not};
 ghost use Rattle.x86_alu.specs.Operand.{span, signed, fits_signed};
 ghost use Rattle.x86_alu.specs.Flags.{bit, carry_of, of_result, with_flags};
 ghost use Rattle.x86_alu.specs.Arithmetic.{sum_of, added, difference_of, subtracted, alu_result, alu_flags};
 
 use crate::flags::{CF, Flags, is_set, of_result, with_flags};
 use crate::op::AluOp;
-use crate::operand::{is_negative, mask_of, size_of, truncated};
+use crate::operand::{mask_of, size_of, truncated};
 use vm_law::Width;
 
-// A sum of two numbers of one sign has the other sign.
+// The sum has another sign than both numbers.
 #[inline(always)]
 fn sum_overflows(width: Width, a: u64, b: u64, carry: bool, sum: u64) -> bool
     requires a_fits { a < span width }
@@ -16,8 +16,16 @@ fn sum_overflows(width: Width, a: u64, b: u64, carry: bool, sum: u64) -> bool
     requires is_sum { sum ≡ sum_of (span width) a b (bit carry) }
     ensures { result ≡ not (fits_signed (span width) (signed (span width) a +ℤ signed (span width) b +ℤ pos (bit carry))) }
 {
-    let negative = is_negative(width, a);
-    is_negative(width, b) == negative && is_negative(width, sum) != negative
+    is_set((a ^ sum) & (b ^ sum), size_of(width) - 1)
+}
+
+// What the low four bits carry is seen in the fifth, which is otherwise that of one number or the other.
+#[inline(always)]
+fn sum_carries_digit(width: Width, a: u64, b: u64, carry: bool, sum: u64) -> bool
+    requires { sum ≡ sum_of (span width) a b (bit carry) }
+    ensures { result ≡ nat_le 16 (a % 16 + b % 16 + bit carry) }
+{
+    is_set(a ^ b ^ sum, 4)
 }
 
 /// The sum of two operands and a carry, and its flags.
@@ -31,17 +39,16 @@ fn added(width: Width, a: u64, b: u64, carry: bool) -> (u64, Flags)
 {
     let wide = u128::from(a) + u128::from(b) + u128::from(carry);
     let sum = truncated(width, wide);
-    let digits = (a & 15) + (b & 15) + u64::from(carry);
     let flags = Flags {
         cf: wide > u128::from(mask_of(width)),
-        af: digits > 15,
+        af: sum_carries_digit(width, a, b, carry, sum),
         of: sum_overflows(width, a, b, carry, sum),
         ..of_result(width, sum)
     };
     (sum, flags)
 }
 
-// A difference of two numbers of different signs has the second one's sign.
+// The numbers have different signs, and the difference hasn't the first one's.
 #[inline(always)]
 fn difference_overflows(width: Width, a: u64, b: u64, borrow: bool, difference: u64) -> bool
     requires a_fits { a < span width }
@@ -49,8 +56,17 @@ fn difference_overflows(width: Width, a: u64, b: u64, borrow: bool, difference: 
     requires is_difference { difference ≡ difference_of (span width) a b (bit borrow) }
     ensures { result ≡ not (fits_signed (span width) (signed (span width) a -ℤ signed (span width) b -ℤ pos (bit borrow))) }
 {
-    let negative = is_negative(width, a);
-    is_negative(width, b) != negative && is_negative(width, difference) != negative
+    is_set((a ^ b) & (a ^ difference), size_of(width) - 1)
+}
+
+// What the low four bits borrow is seen in the fifth, as in a sum.
+#[inline(always)]
+fn difference_borrows_digit(width: Width, a: u64, b: u64, borrow: bool, difference: u64) -> bool
+    requires b_fits { b < span width }
+    requires is_difference { difference ≡ difference_of (span width) a b (bit borrow) }
+    ensures { result ≡ nat_lt (a % 16) (b % 16 + bit borrow) }
+{
+    is_set(a ^ b ^ difference, 4)
 }
 
 /// The difference of two operands and a borrow, and its flags.
@@ -67,10 +83,9 @@ fn subtracted(width: Width, a: u64, b: u64, borrow: bool) -> (u64, Flags)
         width,
         u128::from(mask_of(width)) + 1 + u128::from(a) - taken,
     );
-    let digit = (b & 15) + u64::from(borrow);
     let flags = Flags {
         cf: u128::from(a) < taken,
-        af: a & 15 < digit,
+        af: difference_borrows_digit(width, a, b, borrow, difference),
         of: difference_overflows(width, a, b, borrow, difference),
         ..of_result(width, difference)
     };
@@ -111,41 +126,12 @@ fn finished(rflags: u64, answer: (u64, Flags)) -> (u64, u64)
     (answer.0, with_flags(rflags, answer.1))
 }
 
-// A sum with its flags in RFLAGS. Each width has code of its own.
-fn sum_in(width: Width, a: u64, b: u64, carry: bool, rflags: u64) -> (u64, u64)
-    requires a_fits { a < span width }
-    requires b_fits { b < span width }
-    ensures sum { result.0 ≡ sum_of (span width) a b (bit carry) }
-    ensures flags { result.1 ≡ with_flags rflags (added (span width) a b (bit carry)) }
-{
-    match width {
-        Width::B => finished(rflags, added(Width::B, a, b, carry)),
-        Width::W => finished(rflags, added(Width::W, a, b, carry)),
-        Width::D => finished(rflags, added(Width::D, a, b, carry)),
-        Width::Q => finished(rflags, added(Width::Q, a, b, carry)),
-    }
-}
-
-// A difference with its flags in RFLAGS. Each width has code of its own.
-fn difference_in(width: Width, a: u64, b: u64, borrow: bool, rflags: u64) -> (u64, u64)
-    requires a_fits { a < span width }
-    requires b_fits { b < span width }
-    ensures difference { result.0 ≡ difference_of (span width) a b (bit borrow) }
-    ensures flags { result.1 ≡ with_flags rflags (subtracted (span width) a b (bit borrow)) }
-{
-    match width {
-        Width::B => finished(rflags, subtracted(Width::B, a, b, borrow)),
-        Width::W => finished(rflags, subtracted(Width::W, a, b, borrow)),
-        Width::D => finished(rflags, subtracted(Width::D, a, b, borrow)),
-        Width::Q => finished(rflags, subtracted(Width::Q, a, b, borrow)),
-    }
-}
-
 /// The result of an operation on operands of `width`, and RFLAGS after it.
 ///
 /// `flags` is RFLAGS before: of it ADC and SBB read the carry flag, INC and DEC keep it, NOT keeps all, and every
 /// operation keeps all bits but the six status flags. NOT, NEG, INC and DEC ignore `b`. The result of CMP and TEST is
 /// for the caller to drop. Source: Intel SDM volume 2, the pages of the instructions.
+#[inline(always)]
 #[tactic(auto, unfolding(crate::specs::Arithmetic::alu_result, crate::specs::Arithmetic::alu_flags))]
 pub fn alu(op: AluOp, width: Width, a: u64, b: u64, flags: u64) -> (u64, u64)
     requires a_fits { a < span width }
@@ -156,15 +142,15 @@ pub fn alu(op: AluOp, width: Width, a: u64, b: u64, flags: u64) -> (u64, u64)
 {
     let carry = is_set(flags, CF);
     match op {
-        AluOp::Add => sum_in(width, a, b, false, flags),
-        AluOp::Adc => sum_in(width, a, b, carry, flags),
-        AluOp::Sub | AluOp::Cmp => difference_in(width, a, b, false, flags),
-        AluOp::Sbb => difference_in(width, a, b, carry, flags),
+        AluOp::Add => finished(flags, added(width, a, b, false)),
+        AluOp::Adc => finished(flags, added(width, a, b, carry)),
+        AluOp::Sub | AluOp::Cmp => finished(flags, subtracted(width, a, b, false)),
+        AluOp::Sbb => finished(flags, subtracted(width, a, b, carry)),
         AluOp::And | AluOp::Test => finished(flags, bitwise(width, a & b)),
         AluOp::Or => finished(flags, bitwise(width, a | b)),
         AluOp::Xor => finished(flags, bitwise(width, a ^ b)),
         AluOp::Not => (mask_of(width) - a, flags),
-        AluOp::Neg => difference_in(width, 0, a, false, flags),
+        AluOp::Neg => finished(flags, subtracted(width, 0, a, false)),
         AluOp::Inc => finished(flags, keeping_carry(carry, added(width, a, 1, false))),
         AluOp::Dec => finished(flags, keeping_carry(carry, subtracted(width, a, 1, false))),
     }

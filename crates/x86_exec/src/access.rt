@@ -18,12 +18,13 @@ use x86_op::{Access, Way, access_of, compute, faults, matches_accumulator};
 fn is_plain(insn: &Insn) -> bool
     ensures { result ≡ spec.is_plain insn.now }
 {
-    match (insn.op, insn.width) {
+    match (&insn.op, insn.width) {
         (Op::Mov(..), Width::D) => true,
         _ => false,
     }
 }
 
+#[inline(always)]
 #[tactic(auto, unfolding(crate::specs::Shared::number_at))]
 fn number_at<B: Bytes>(bytes: &B, access: &Access, place: Place) -> Result<u64, Effect>
     requires length { IsLength access.now.len }
@@ -37,6 +38,7 @@ fn number_at<B: Bytes>(bytes: &B, access: &Access, place: Place) -> Result<u64, 
 }
 
 /// What is loaded; nothing for a mere store.
+#[inline(always)]
 #[tactic(auto, unfolding(crate::specs::Shared::loaded))]
 fn loaded<B: Bytes>(bytes: &B, access: &Access, place: Place) -> Result<u64, Effect>
     requires length { IsLength access.now.len }
@@ -78,6 +80,7 @@ fn stores(ctx: &Ctx, insn: &Insn, read: u64, way: Way) -> bool
 }
 
 /// Stores a number in memory or at a device.
+#[inline(always)]
 #[tactic(auto, unfolding(crate::specs::Shared::stored_at))]
 fn store_at<B: Bytes>(bytes: &mut B, access: &Access, place: Place, number: u64) -> Performed
     requires length { IsLength access.now.len }
@@ -105,6 +108,7 @@ fn store_at<B: Bytes>(bytes: &mut B, access: &Access, place: Place, number: u64)
     }
 }
 
+#[inline(always)]
 #[tactic(auto, unfolding(crate::specs::Shared::accessed, crate::specs::Shared::ended))]
 fn accessed<B: Bytes>(
     ctx: &mut Ctx,
@@ -133,6 +137,7 @@ fn accessed<B: Bytes>(
 }
 
 /// On registers and flags alone.
+#[inline(never)]
 #[tactic(auto, unfolding(crate::specs::Shared::alone))]
 fn alone<B: Bytes>(ctx: &mut Ctx, insn: &Insn, len: u8, bytes: &B) -> Result<Performed, Effect>
     ensures outcome { outcome result ctx.new (B.memory bytes.now) ≡ spec.alone ctx.old insn.now len (B.memory bytes.now) }
@@ -145,8 +150,9 @@ fn alone<B: Bytes>(ctx: &mut Ctx, insn: &Insn, len: u8, bytes: &B) -> Result<Per
 }
 
 /// An instruction with the access that it makes, if any.
+#[inline(always)]
 #[tactic(auto, unfolding(crate::specs::Shared::with_access))]
-pub(crate) fn with_access<B: Bytes>(
+fn with_any_access<B: Bytes>(
     ctx: &mut Ctx,
     insn: &Insn,
     len: u8,
@@ -161,5 +167,29 @@ pub(crate) fn with_access<B: Bytes>(
     match access_of(ctx, insn, len) {
         None => alone(ctx, insn, len, bytes),
         Some(access) => accessed(ctx, insn, len, bytes, &access),
+    }
+}
+
+/// The same. The instructions that guests run most have code of their own, in which their operation is known.
+#[inline(always)]
+pub(crate) fn with_access<B: Bytes>(
+    ctx: &mut Ctx,
+    insn: &Insn,
+    len: u8,
+    bytes: &mut B,
+) -> Result<Performed, Effect>
+    requires room { 2 ≤ B.spare bytes.old }
+    ensures outcome { outcome result ctx.new (B.memory bytes.new) ≡ spec.with_access ctx.old insn.now len (B.memory bytes.old) (access_of ctx.old insn.now len) }
+    ensures refused { OnErr result ((ctx.new ≡ ctx.old) × (bytes.new ≡ bytes.old)) }
+    ensures stores { IfOk result (λ p. Stores p.stored (B.memory bytes.old) (B.memory bytes.new)) }
+    ensures room { B.spare bytes.old ≤ B.spare bytes.new + 2 }
+{
+    match &insn.op {
+        Op::Mov(..) => with_any_access(ctx, insn, len, bytes),
+        Op::Push(_) => with_any_access(ctx, insn, len, bytes),
+        Op::Pop(_) => with_any_access(ctx, insn, len, bytes),
+        Op::Call(_) => with_any_access(ctx, insn, len, bytes),
+        Op::Ret(_) => with_any_access(ctx, insn, len, bytes),
+        _ => with_any_access(ctx, insn, len, bytes),
     }
 }

@@ -7,6 +7,7 @@ ghost use Rattle.vm_law.specs.Memory.{read_of, written};
 use byteorder::{ByteOrder, LittleEndian};
 use vm_law::Bytes;
 
+#[inline(always)]
 fn load_u16<B: Bytes>(bytes: &B, at: u64) -> u16
     requires { at + 2 ≤ length (B.memory bytes.now).bytes }
     ensures { result ≡ little_number 2 (read_of (B.memory bytes.now) at 2) }
@@ -16,6 +17,7 @@ fn load_u16<B: Bytes>(bytes: &B, at: u64) -> u16
     LittleEndian::read_u16(&piece)
 }
 
+#[inline(always)]
 fn load_u32<B: Bytes>(bytes: &B, at: u64) -> u32
     requires { at + 4 ≤ length (B.memory bytes.now).bytes }
     ensures { result ≡ little_number 4 (read_of (B.memory bytes.now) at 4) }
@@ -25,6 +27,7 @@ fn load_u32<B: Bytes>(bytes: &B, at: u64) -> u32
     LittleEndian::read_u32(&piece)
 }
 
+#[inline(always)]
 fn load_u64<B: Bytes>(bytes: &B, at: u64) -> u64
     requires { at + 8 ≤ length (B.memory bytes.now).bytes }
     ensures { result ≡ little_number 8 (read_of (B.memory bytes.now) at 8) }
@@ -34,6 +37,7 @@ fn load_u64<B: Bytes>(bytes: &B, at: u64) -> u64
     LittleEndian::read_u64(&piece)
 }
 
+#[inline(always)]
 fn load_u8<B: Bytes>(bytes: &B, at: u64) -> u8
     requires { at + 1 ≤ length (B.memory bytes.now).bytes }
     ensures { result ≡ little_number 1 (read_of (B.memory bytes.now) at 1) }
@@ -44,6 +48,7 @@ fn load_u8<B: Bytes>(bytes: &B, at: u64) -> u8
 }
 
 /// The number of 1, 2, 4 or 8 bytes at an address.
+#[inline(always)]
 pub(crate) fn load<B: Bytes>(bytes: &B, at: u64, len: u8) -> u64
     requires length { IsLength len }
     requires inside { at + len ≤ length (B.memory bytes.now).bytes }
@@ -58,6 +63,7 @@ pub(crate) fn load<B: Bytes>(bytes: &B, at: u64, len: u8) -> u64
 }
 
 /// Writes the lowest 1, 2, 4 or 8 bytes of a number to an address.
+#[inline(always)]
 pub(crate) fn store<B: Bytes>(bytes: &mut B, at: u64, len: u8, number: u64)
     requires length { IsLength len }
     requires inside { at + len ≤ length (B.memory bytes.old).bytes }

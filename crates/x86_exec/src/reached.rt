@@ -26,6 +26,7 @@ fn windowed(plain: bool, area: Area, offset: u32) -> Result<Place, Effect>
     }
 }
 
+#[inline(always)]
 #[tactic(auto, unfolding(crate::specs::Reached::reached))]
 fn judged(plain: bool, area: Area) -> Result<Place, Effect>
     ensures { result ≡ spec.reached plain area }
@@ -45,6 +46,7 @@ fn judged(plain: bool, area: Area) -> Result<Place, Effect>
 }
 
 /// Where an access to `len` bytes goes. `plain` is whether a MOV of 32 bits makes it.
+#[inline(always)]
 pub(crate) fn reach<B: Bytes>(bytes: &B, plain: bool, at: u64, len: u8) -> Result<Place, Effect>
     requires { 0 < len }
     ensures reached { result ≡ spec.reached plain (area_in (B.memory bytes.now) at len) }

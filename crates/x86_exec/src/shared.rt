@@ -11,6 +11,7 @@ use crate::system::{iret, lidt, out, port_of};
 use vm_law::{Bytes, Ctx, Insn, Loc, Op, Width};
 use x86_op::{compute, pass, set_value};
 
+#[inline(always)]
 #[tactic(auto, unfolding(crate::specs::Shared::attempted))]
 fn attempt<B: Bytes>(
     ctx: &mut Ctx,

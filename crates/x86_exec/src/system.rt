@@ -41,6 +41,7 @@ fn return_by(ctx: &mut Ctx, len: u8, frame: &[u8; 40])
     ctx.nmi_block = false;
 }
 
+#[inline(never)]
 #[tactic(auto, unfolding(crate::specs::Shared::iret))]
 pub(crate) fn iret<B: Bytes>(ctx: &mut Ctx, len: u8, bytes: &B) -> Result<Performed, Effect>
     ensures outcome { outcome result ctx.new (B.memory bytes.now) ≡ spec.iret ctx.old len (B.memory bytes.now) }
@@ -61,6 +62,7 @@ fn set_idt(ctx: &mut Ctx, len: u8, operand: &[u8; 10])
     ctx.idt_base = LittleEndian::read_u64(&operand[2..]);
 }
 
+#[inline(never)]
 #[tactic(auto, unfolding(crate::specs::Shared::lidt))]
 pub(crate) fn lidt<B: Bytes>(
     ctx: &mut Ctx,
@@ -88,6 +90,7 @@ pub(crate) fn port_of(ctx: &Ctx, port: Option<u8>) -> u16
     }
 }
 
+#[inline(never)]
 #[tactic(auto, unfolding(crate::specs::Shared::out))]
 pub(crate) fn out(ctx: &mut Ctx, len: u8, width: Width, port: Option<u8>) -> Performed
     ensures shared { (mem : Memory) → record { effect = result.effect; ctx = ctx.new; memory = mem; stored = result.stored } ≡ spec.out ctx.old len mem width port }

@@ -8,6 +8,7 @@ use crate::operand::register;
 use vm_law::{Ctx, Mem};
 
 // A register that may be left out.
+#[inline(always)]
 #[tactic(auto, unfolding(crate::specs::Address::part))]
 fn part(ctx: &Ctx, r: Option<u8>) -> u64
     ensures { result ≡ spec.part ctx.now r }
@@ -19,6 +20,7 @@ fn part(ctx: &Ctx, r: Option<u8>) -> u64
 }
 
 // The address of an operand where `next` is the address of the next instruction.
+#[inline(always)]
 fn address_from(ctx: &Ctx, next: u64, mem: &Mem) -> u64
     ensures { result ≡ (spec.part ctx.now mem.now.base + spec.part ctx.now mem.now.index * mem.now.scale
         + cast_unsigned w64 mem.now.disp + (if mem.now.rip then next else 0)) % 2 ^ 64 }

@@ -20,6 +20,7 @@ fn count_at(ctx: &Ctx, count: Count) -> u8
 }
 
 /// Shifts and rotates. Answers the operand after.
+#[inline(never)]
 #[tactic(auto, unfolding(crate::specs::Bits::shift_done, crate::specs::Done::flagged))]
 pub(crate) fn shift(
     ctx: &mut Ctx,
@@ -99,6 +100,7 @@ fn test(ctx: &mut Ctx, width: Width, op: BitTestOp, loc: &Loc, a: u64, b: u64) -
 /// BT, BTS, BTR, BTC. Answers the operand after, which BT doesn't write.
 ///
 /// No instruction does this to 8 bits; at that width the context stays.
+#[inline(never)]
 #[tactic(auto, unfolding(crate::specs::Bits::bit_done))]
 pub(crate) fn bit(
     ctx: &mut Ctx,
@@ -137,6 +139,7 @@ fn scan_for(ctx: &mut Ctx, op: BitOp, width: Width, r: u8, b: u64)
 /// BSF and BSR. A scan of 0 leaves the whole register.
 ///
 /// No instruction does this to 8 bits; at that width the context stays.
+#[inline(never)]
 #[tactic(auto, unfolding(crate::specs::Bits::scan_done))]
 pub(crate) fn scan(ctx: &mut Ctx, op: BitOp, width: Width, read: u64, r: u8, loc: &Loc)
     ensures { ctx.new ≡ spec.scan_done ctx.old op width read r loc.now }

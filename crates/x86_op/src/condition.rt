@@ -36,6 +36,7 @@ fn is_less_or_equal(flags: u64) -> bool
 }
 
 /// Whether a condition holds.
+#[inline(always)]
 #[tactic(auto, unfolding(crate::specs::Condition::holds))]
 pub(crate) fn holds(flags: u64, condition: Condition) -> bool
     ensures { result ≡ spec.holds flags condition }

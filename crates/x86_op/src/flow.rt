@@ -16,6 +16,7 @@ pub(crate) const BP: u8 = 5;
 // 8 bytes down, modulo 2^64.
 const DOWN: u64 = 0xFFFF_FFFF_FFFF_FFF8;
 
+#[inline(always)]
 #[tactic(auto, unfolding(crate::specs::Flow::jumped_to))]
 pub(crate) fn jump_to(ctx: &mut Ctx, rip: u64)
     ensures { ctx.new ≡ spec.jumped_to ctx.old rip }
@@ -24,6 +25,7 @@ pub(crate) fn jump_to(ctx: &mut Ctx, rip: u64)
 }
 
 /// Jumps by a displacement from the next instruction on.
+#[inline(always)]
 #[tactic(auto, unfolding(crate::specs::Flow::jumped))]
 pub(crate) fn jump(ctx: &mut Ctx, by: i32)
     ensures { ctx.new ≡ spec.jumped ctx.old by }
@@ -32,6 +34,7 @@ pub(crate) fn jump(ctx: &mut Ctx, by: i32)
     jump_to(ctx, next.wrapping_add(i64::from(by).cast_unsigned()));
 }
 
+#[inline(always)]
 #[tactic(auto, unfolding(crate::specs::Flow::jcc_done))]
 pub(crate) fn jcc(ctx: &mut Ctx, condition: Condition, by: i32)
     ensures { ctx.new ≡ spec.jcc_done ctx.old condition by }
@@ -42,6 +45,7 @@ pub(crate) fn jcc(ctx: &mut Ctx, condition: Condition, by: i32)
 }
 
 // Moves RSP, modulo 2^64.
+#[inline(always)]
 #[tactic(auto, unfolding(crate::specs::Flow::moved_stack))]
 fn move_stack(ctx: &mut Ctx, by: u64)
     ensures { ctx.new ≡ spec.moved_stack ctx.old by }
@@ -51,6 +55,7 @@ fn move_stack(ctx: &mut Ctx, by: u64)
 }
 
 /// Where the next push goes to.
+#[inline(always)]
 #[tactic(auto, unfolding(crate::specs::Flow::top_of))]
 pub(crate) fn top_of(ctx: &Ctx) -> u64
     ensures { result ≡ spec.top_of ctx.now }
@@ -59,6 +64,7 @@ pub(crate) fn top_of(ctx: &Ctx) -> u64
 }
 
 /// PUSH: the old value of RSP where it is the source.
+#[inline(always)]
 #[tactic(auto, unfolding(crate::specs::Flow::push_done))]
 pub(crate) fn push(ctx: &mut Ctx, read: u64, src: &Src) -> u64
     ensures ctx { ctx.new ≡ (spec.push_done ctx.old read src.now).ctx }
@@ -70,6 +76,7 @@ pub(crate) fn push(ctx: &mut Ctx, read: u64, src: &Src) -> u64
 }
 
 /// POP: RSP takes the popped value where it is the destination.
+#[inline(always)]
 #[tactic(auto, unfolding(crate::specs::Flow::pop_done))]
 pub(crate) fn pop(ctx: &mut Ctx, read: u64, r: u8)
     ensures { ctx.new ≡ spec.pop_done ctx.old read r }
@@ -78,6 +85,7 @@ pub(crate) fn pop(ctx: &mut Ctx, read: u64, r: u8)
     set_register(ctx, r, read);
 }
 
+#[inline(always)]
 #[tactic(auto, unfolding(crate::specs::Flow::call_done))]
 pub(crate) fn call(ctx: &mut Ctx, by: i32) -> u64
     ensures ctx { ctx.new ≡ (spec.call_done ctx.old by).ctx }
@@ -90,6 +98,7 @@ pub(crate) fn call(ctx: &mut Ctx, by: i32) -> u64
 }
 
 /// CALL of a register, which is read before RSP moves.
+#[inline(always)]
 #[tactic(auto, unfolding(crate::specs::Flow::call_register_done))]
 pub(crate) fn call_register(ctx: &mut Ctx, r: u8) -> u64
     ensures ctx { ctx.new ≡ (spec.call_register_done ctx.old r).ctx }
@@ -103,6 +112,7 @@ pub(crate) fn call_register(ctx: &mut Ctx, r: u8) -> u64
 }
 
 /// RET, which drops `n` bytes besides.
+#[inline(always)]
 #[tactic(auto, unfolding(crate::specs::Flow::ret_done))]
 pub(crate) fn ret(ctx: &mut Ctx, read: u64, n: u16)
     ensures { ctx.new ≡ spec.ret_done ctx.old read n }

@@ -17,6 +17,7 @@ const AX: Loc = Loc::Reg(0);
 
 const DX: Loc = Loc::Reg(2);
 
+#[inline(always)]
 #[tactic(auto, unfolding(crate::specs::Moves::mov_done))]
 pub(crate) fn mov(ctx: &mut Ctx, width: Width, read: u64, loc: &Loc, src: &Src) -> u64
     ensures ctx { ctx.new ≡ (spec.mov_done ctx.old width read loc.now src.now).ctx }
@@ -61,6 +62,7 @@ fn sign_extended(from: Width, to: Width, value: u64) -> u64
     }
 }
 
+#[inline(never)]
 #[tactic(auto, unfolding(crate::specs::Moves::movzx_done))]
 pub(crate) fn movzx(ctx: &mut Ctx, width: Width, read: u64, r: u8, from: Width, loc: &Loc)
     ensures { ctx.new ≡ spec.movzx_done ctx.old width read r from loc.now }
@@ -69,6 +71,7 @@ pub(crate) fn movzx(ctx: &mut Ctx, width: Width, read: u64, r: u8, from: Width, 
     set_value(ctx, width, &Loc::Reg(r), truncated(width, value));
 }
 
+#[inline(never)]
 #[tactic(auto, unfolding(crate::specs::Moves::movsx_done))]
 pub(crate) fn movsx(ctx: &mut Ctx, width: Width, read: u64, r: u8, from: Width, loc: &Loc)
     ensures { ctx.new ≡ spec.movsx_done ctx.old width read r from loc.now }
@@ -78,6 +81,7 @@ pub(crate) fn movsx(ctx: &mut Ctx, width: Width, read: u64, r: u8, from: Width, 
 }
 
 /// LEA: the address itself, as many of its low bits as the register has.
+#[inline(always)]
 #[tactic(auto, unfolding(crate::specs::Moves::lea_done))]
 pub(crate) fn lea(ctx: &mut Ctx, width: Width, r: u8, mem: &Mem)
     ensures { ctx.new ≡ spec.lea_done ctx.old width r mem.now }
@@ -87,6 +91,7 @@ pub(crate) fn lea(ctx: &mut Ctx, width: Width, r: u8, mem: &Mem)
 }
 
 /// XCHG: each takes the other's value.
+#[inline(never)]
 #[tactic(auto, unfolding(crate::specs::Moves::xchg_done))]
 pub(crate) fn xchg(ctx: &mut Ctx, width: Width, read: u64, a: &Loc, b: &Loc) -> u64
     ensures ctx { ctx.new ≡ (spec.xchg_done ctx.old width read a.now b.now).ctx }
@@ -109,6 +114,7 @@ pub(crate) fn is_equal(ctx: &Ctx, width: Width, read: u64, a: &Loc) -> bool
 
 /// CMPXCHG: the flags of a CMP of the accumulator with the destination; the destination takes the source where they are
 /// equal, and else the accumulator takes the destination.
+#[inline(never)]
 #[tactic(auto, unfolding(crate::specs::Moves::cmpxchg_done, crate::specs::Moves::is_equal))]
 pub(crate) fn cmpxchg(ctx: &mut Ctx, width: Width, read: u64, a: &Loc, b: &Loc) -> u64
     ensures ctx { ctx.new ≡ (spec.cmpxchg_done ctx.old width read a.now b.now).ctx }
@@ -128,6 +134,7 @@ pub(crate) fn cmpxchg(ctx: &mut Ctx, width: Width, read: u64, a: &Loc, b: &Loc) 
 }
 
 /// XADD: the source takes the destination, and then the destination takes the sum.
+#[inline(never)]
 #[tactic(auto, unfolding(crate::specs::Moves::xadd_done))]
 pub(crate) fn xadd(ctx: &mut Ctx, width: Width, read: u64, a: &Loc, b: &Loc) -> u64
     ensures ctx { ctx.new ≡ (spec.xadd_done ctx.old width read a.now b.now).ctx }
@@ -154,6 +161,7 @@ fn swapped(width: Width, value: u64) -> u64
     }
 }
 
+#[inline(never)]
 #[tactic(auto, unfolding(crate::specs::Moves::bswap_done))]
 pub(crate) fn bswap(ctx: &mut Ctx, width: Width, r: u8)
     ensures { ctx.new ≡ spec.bswap_done ctx.old width r }
@@ -162,6 +170,7 @@ pub(crate) fn bswap(ctx: &mut Ctx, width: Width, r: u8)
     set_value(ctx, width, &Loc::Reg(r), swapped(width, value));
 }
 
+#[inline(never)]
 #[tactic(auto, unfolding(crate::specs::Moves::setcc_done))]
 pub(crate) fn setcc(ctx: &mut Ctx, condition: Condition, loc: &Loc) -> u64
     ensures ctx { ctx.new ≡ (spec.setcc_done ctx.old condition loc.now).ctx }
@@ -173,6 +182,7 @@ pub(crate) fn setcc(ctx: &mut Ctx, condition: Condition, loc: &Loc) -> u64
 }
 
 /// CMOVcc: where the condition is false the register keeps its value, of which 32 bits clear the upper half.
+#[inline(never)]
 #[tactic(auto, unfolding(crate::specs::Moves::cmov_done))]
 pub(crate) fn cmov(ctx: &mut Ctx, width: Width, read: u64, condition: Condition, r: u8, loc: &Loc)
     ensures { ctx.new ≡ spec.cmov_done ctx.old width read condition r loc.now }
@@ -197,6 +207,7 @@ fn half_of(width: Width) -> Width
 }
 
 /// CBW, CWDE, CDQE: rAX becomes its lower half with its sign.
+#[inline(never)]
 #[tactic(auto, unfolding(crate::specs::Moves::widen_done))]
 pub(crate) fn widen(ctx: &mut Ctx, width: Width)
     ensures { ctx.new ≡ spec.widen_done ctx.old width }
@@ -207,6 +218,7 @@ pub(crate) fn widen(ctx: &mut Ctx, width: Width)
 }
 
 /// CWD, CDQ, CQO: each bit of rDX becomes the sign of rAX.
+#[inline(never)]
 #[tactic(auto, unfolding(crate::specs::Moves::sign_fill_done))]
 pub(crate) fn sign_fill(ctx: &mut Ctx, width: Width)
     ensures { ctx.new ≡ spec.sign_fill_done ctx.old width }

@@ -2,7 +2,8 @@
 ghost use Rattle.std.specs.Prelude.{◌≡◌, IsTrue, not, if◌then◌else◌};
 ghost use Rattle.x86_alu.specs.Flags.{carry_of};
 ghost use Rattle.x86_op.specs.Access.{is_local};
-ghost use Rattle.x86_op.specs.Operand.{value_at, source_at};
+ghost use Rattle.x86_op.specs.Operand.{value_at, source_at, passed};
+ghost use Rattle.x86_op.specs.Arithmetic as divisions;
 ghost use Rattle.x86_op.specs.Arithmetic.{operated, compared};
 ghost use Rattle.x86_op.specs.Flow.{jumped_to, carry_done};
 ghost use Rattle.x86_op.specs.Table as spec;
@@ -18,7 +19,7 @@ use crate::moves::{
     bswap, cmov, cmpxchg, is_equal, lea, mov, movsx, movzx, setcc, sign_fill, widen, xadd, xchg,
 };
 use crate::operand::{pass, source_at, value_at};
-use vm_law::{Ctx, Insn, Loc, Op, Src, Width};
+use vm_law::{Ctx, Insn, Loc, Op, Src, UnaryOp, Width};
 use x86_alu::{AluOp, BitOp};
 
 // INC and DEC.
@@ -111,6 +112,36 @@ fn done(ctx: &mut Ctx, op: &Op, width: Width, read: u64) -> u64
     0
 }
 
+#[inline(never)]
+fn done_byte(ctx: &mut Ctx, op: &Op, read: u64) -> u64
+    ensures ctx { ctx.new ≡ ((spec.line Width.B op.now).done ctx.old read).ctx }
+    ensures stored { result ≡ ((spec.line Width.B op.now).done ctx.old read).stored }
+{
+    done(ctx, op, Width::B, read)
+}
+
+#[inline(never)]
+fn done_word(ctx: &mut Ctx, op: &Op, read: u64) -> u64
+    ensures ctx { ctx.new ≡ ((spec.line Width.W op.now).done ctx.old read).ctx }
+    ensures stored { result ≡ ((spec.line Width.W op.now).done ctx.old read).stored }
+{
+    done(ctx, op, Width::W, read)
+}
+
+// The same of any operation. Each width has code of its own.
+#[inline(always)]
+fn done_at(ctx: &mut Ctx, op: &Op, width: Width, read: u64) -> u64
+    ensures ctx { ctx.new ≡ ((spec.line width op.now).done ctx.old read).ctx }
+    ensures stored { result ≡ ((spec.line width op.now).done ctx.old read).stored }
+{
+    match width {
+        Width::B => done_byte(ctx, op, read),
+        Width::W => done_word(ctx, op, read),
+        Width::D => done(ctx, op, Width::D, read),
+        Width::Q => done(ctx, op, Width::Q, read),
+    }
+}
+
 /// What an instruction of `len` bytes computes: registers and flags after it, in `ctx`, and the value for its operand in
 /// memory, which is answered where it stores one. `read` is what was read at that operand or from the stack.
 ///
@@ -122,7 +153,7 @@ pub fn compute(ctx: &mut Ctx, insn: &Insn, len: u8, read: u64) -> u64
     ensures stored { result ≡ (spec.computed ctx.old insn.now len read).stored }
 {
     pass(ctx, len);
-    done(ctx, &insn.op, insn.width, read)
+    done_at(ctx, &insn.op, insn.width, read)
 }
 
 /// Whether an instruction raises #DE: a division by 0, or one whose quotient doesn't fit. `ctx` is the context before it.
@@ -150,16 +181,34 @@ pub fn matches_accumulator(ctx: &Ctx, insn: &Insn, read: u64) -> bool
     }
 }
 
+// NOT, NEG, MUL, IMUL, DIV, IDIV of a register. `false` is #DE.
+#[inline(never)]
+fn run_unary(ctx: &mut Ctx, width: Width, len: u8, op: UnaryOp, loc: &Loc) -> bool
+    ensures answer { result ≡ not (divisions.unary_faults ctx.old width 0 op loc.now) }
+    ensures ctx { ctx.new ≡ (if divisions.unary_faults ctx.old width 0 op loc.now then ctx.old
+        else (divisions.unary_done (passed ctx.old len) width 0 op loc.now).ctx) }
+{
+    if unary_faults(ctx, width, 0, op, loc) {
+        return false;
+    }
+    pass(ctx, len);
+    unary_done(ctx, width, 0, op, loc);
+    true
+}
+
 /// Runs a local instruction of `len` bytes. `false` is #DE, which leaves the context.
 #[inline(always)]
+#[tactic(auto, unfolding(crate::specs::Table::line))]
 pub fn run_local(ctx: &mut Ctx, insn: &Insn, len: u8) -> bool
     requires { IsTrue (is_local insn.now) }
     ensures answer { result ≡ not (spec.faults ctx.old insn.now 0) }
     ensures ctx { ctx.new ≡ (if spec.faults ctx.old insn.now 0 then ctx.old else (spec.computed ctx.old insn.now len 0).ctx) }
 {
-    if faults(ctx, insn, 0) {
-        return false;
+    match &insn.op {
+        Op::Unary(op, loc) => run_unary(ctx, insn.width, len, *op, loc),
+        _ => {
+            compute(ctx, insn, len, 0);
+            true
+        }
     }
-    compute(ctx, insn, len, 0);
-    true
 }

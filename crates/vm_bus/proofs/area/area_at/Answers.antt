@@ -6,6 +6,3 @@ pub returns-then-len-addr-clause-area : goal.returns-then-len-addr-clause-area
 returns-then-len-addr-clause-area c =
     let a = c.args in
     c.memory_at.ensures.area ∙ sym (area_of-low a.addr a.len a.code a.ram (omega arith) (omega arith))
-
-pub returns-in-Some-clause-within : goal.returns-in-Some-clause-within
-returns-in-Some-clause-within c = c.in-Some.ensures.within c.args.code c.args.ram

@@ -1,27 +1,10 @@
-use Rattle.std.proofs.Common.{◌≡◌, ap, ap₂, sym, ◌∙◌, not, ℕ, true, false}
-use Rattle.std.proofs.lemmas.Bool.{not-true, not-false}
-use mathlib.Core.Bool.{beq}
-use Rattle.x86_alu.specs.Operand.{span, signed, is_negative}
+use Rattle.std.proofs.Common.{◌∙◌}
 use Rattle.x86_alu.specs.Flags.{bit}
-use Rattle.x86_alu.proofs.Masks.{span_even}
-use Rattle.x86_alu.proofs.Overflow.{signed_reads, same_difference, mixed_difference, bit_le}
+use Rattle.x86_alu.proofs.Overflow.{bit_le}
+use Rattle.x86_alu.proofs.Digits.{difference_sign}
 use Rattle.x86_alu.proofs.arithmetic.difference_overflows.Goals as goal
 
-pub returns-then-is_negative-negative : goal.returns-then-is_negative-negative
-returns-then-is_negative-negative c =
-    let m : ℕ = span c.args.width in
-    let apart : beq (is_negative m c.args.b) (is_negative m c.args.a) ≡ false =
-    sym (ap₂ beq c.is_negative.ensures c.is_negative-negative.ensures) ∙ not-true _ c.if-is_negative-negative.true in
-    ap not (ap₂ beq (c.is_negative-then-is_negative-negative.ensures ∙ ap (is_negative m) c.requires.is_difference) c.is_negative-negative.ensures
-    ∙ sym (mixed_difference m c.args.a c.args.b (bit c.args.borrow) (signed m c.args.a) (signed m c.args.b)
-    (is_negative m c.args.a) (is_negative m c.args.b) (span_even c.args.width) c.requires.a_fits c.requires.b_fits (bit_le c.args.borrow)
-    (signed_reads m c.args.a) (signed_reads m c.args.b) apart))
-
-pub returns-else-is_negative-negative : goal.returns-else-is_negative-negative
-returns-else-is_negative-negative c =
-    let m : ℕ = span c.args.width in
-    let same : beq (is_negative m c.args.b) (is_negative m c.args.a) ≡ true =
-    sym (ap₂ beq c.is_negative.ensures c.is_negative-negative.ensures) ∙ not-false _ c.if-is_negative-negative.false in
-    c.if-is_negative-negative.false ∙ ap not (sym (same_difference m c.args.a c.args.b (bit c.args.borrow) (signed m c.args.a) (signed m c.args.b)
-    (is_negative m c.args.a) (is_negative m c.args.b) (span_even c.args.width) c.requires.a_fits c.requires.b_fits (bit_le c.args.borrow)
-    (signed_reads m c.args.a) (signed_reads m c.args.b) same))
+pub returns : goal.returns
+returns c =
+    c.is_set.ensures ∙ difference_sign c.args.width c.args.a c.args.b (bit c.args.borrow) c.args.difference c.size_of.result c.size_of.ensures
+    c.requires.a_fits c.requires.b_fits (bit_le c.args.borrow) c.requires.is_difference

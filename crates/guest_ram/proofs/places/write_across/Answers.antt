@@ -3,17 +3,17 @@ use Rattle.std.proofs.lemmas.List.{take-append-drop}
 use Rattle.guest_ram.specs.Pages.{IsWritten, bytes_of}
 use Rattle.guest_ram.proofs.Pages.{length-places}
 use Rattle.guest_ram.proofs.Written.{written_two}
-use Rattle.guest_ram.proofs.places.write.Goals as goal
+use Rattle.guest_ram.proofs.places.write_across.Goals as goal
 
-pub returns-else-piece-left-clause-written : goal.returns-else-piece-left-clause-written
-returns-else-piece-left-clause-written c =
+pub returns-clause-written : goal.returns-clause-written
+returns-clause-written c =
     let places = c.args.places.now.items in
     let at = c.args.at in
     let piece = c.args.piece.now in
     let left = 4096 - at % 4096 in
     let size : length (bytes_of places) ≡ 4096 * length places = length-places places c.requires.pages in
-    let first = c.write_within-else-piece-left in
-    let second = c.write_within-else-piece-left-2 in
+    let first = c.write_within in
+    let second = c.write_within-2 in
     let head = c.split_at.result.0.now in
     let tail = c.split_at.result.1.now in
     let whole : head ++ tail ≡ piece =
