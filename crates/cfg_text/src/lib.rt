@@ -16,6 +16,3 @@ mod reading;
 pub use config::Config;
 pub use error::{CfgError, CfgKind};
 pub use reading::read;
-
-#[cfg(test)]
-mod tests;

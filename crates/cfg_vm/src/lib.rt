@@ -14,6 +14,3 @@ mod slot;
 
 pub use error::{PlanError, PlanKind};
 pub use planning::plan;
-
-#[cfg(test)]
-mod tests;

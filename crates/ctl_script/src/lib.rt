@@ -13,8 +13,6 @@ mod numeral;
 mod order;
 mod printing;
 mod reading;
-#[cfg(test)]
-mod tests;
 
 pub use fault::{ScriptError, ScriptKind};
 pub use law::a_print_reads_as_itself;

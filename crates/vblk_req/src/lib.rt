@@ -13,6 +13,3 @@ mod requests;
 
 pub use ask::Ask;
 pub use requests::request;
-
-#[cfg(test)]
-mod tests;

@@ -11,8 +11,6 @@ mod command;
 mod matched;
 mod number;
 mod reading;
-#[cfg(test)]
-mod tests;
 mod word;
 
 pub use command::{CmdError, Command, InspectWords, RunWords};

@@ -15,6 +15,3 @@ mod used;
 pub use chain::{Chain, next_chain, waits};
 pub use ring::{Ring, is_size, ring_ok};
 pub use used::{push_used, wants_interrupt};
-
-#[cfg(test)]
-mod tests;

@@ -15,8 +15,6 @@ pub mod meaning;
 pub mod operands;
 mod reading;
 pub mod rows;
-#[cfg(test)]
-mod tests;
 
 pub use decoder::{decode, decoding_is_the_grammar, one_spelling};
 pub use fault::DecodeFault;

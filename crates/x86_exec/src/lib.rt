@@ -25,6 +25,3 @@ pub use effect::{Effect, Performed, Stored};
 pub use law::{shared_keeps_size, shared_leaves, shared_stores};
 pub use shared::{complete, perform, run_shared};
 pub use x86_op::{is_local, run_local};
-
-#[cfg(test)]
-mod tests;

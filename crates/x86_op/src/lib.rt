@@ -28,6 +28,3 @@ pub use address::{address_behind, address_of};
 pub use flow::masked_flags;
 pub use operand::{pass, register, set_register, set_value, truncated, value_at};
 pub use table::{compute, faults, matches_accumulator, run_local};
-
-#[cfg(test)]
-mod tests;

@@ -12,6 +12,3 @@ mod frame;
 mod gate;
 
 pub use delivery::deliver;
-
-#[cfg(test)]
-mod tests;
