@@ -2,9 +2,9 @@ use crate::case::{Case, Event};
 use crate::print::{print_effect, print_stop, print_stored};
 use crate::ram::Ram;
 use std::alloc::AllocError;
-use vm_law::Ctx;
+use vm_law::{Ctx, Insn};
 use x86_decode::{DecodeFault, decode};
-use x86_exec::{Effect, complete, is_local, perform, run_local};
+use x86_exec::{Effect, complete, is_local, perform, run_local, run_shared};
 use x86_trap::deliver;
 
 /// Puts the memory of a case into memory.
@@ -12,6 +12,26 @@ pub fn load(ram: &mut Ram, case: &Case) {
     for piece in &case.memory {
         ram.load(piece.at, piece.bytes.as_slice());
     }
+}
+
+/// Runs an instruction that isn't local and prints what it asks, and what it stored where the case wants that.
+fn run_printed(
+    ctx: &mut Ctx,
+    ram: &mut Ram,
+    case: &Case,
+    insn: &Insn,
+    len: u8,
+    out: &mut String,
+) -> Result<Effect, AllocError> {
+    if !case.stored {
+        let effect = run_shared(ctx, insn, len, ram);
+        print_effect(&effect, out)?;
+        return Ok(effect);
+    }
+    let performed = perform(ctx, insn, len, ram);
+    print_effect(&performed.effect, out)?;
+    print_stored(performed.stored, out)?;
+    Ok(performed.effect)
 }
 
 /// Runs an instruction.
@@ -31,15 +51,8 @@ fn run_instruction(
         let done = run_local(ctx, &insn, len);
         return out.push_str(if done { "local done" } else { "local trap 0" });
     }
-    let performed = perform(ctx, &insn, len, ram);
-    print_effect(&performed.effect, out)?;
-    if case.stored {
-        print_stored(performed.stored, out)?;
-    }
-    if matches!(
-        performed.effect,
-        Effect::PortIn { .. } | Effect::Load { .. }
-    ) {
+    let effect = run_printed(ctx, ram, case, &insn, len, out)?;
+    if matches!(effect, Effect::PortIn { .. } | Effect::Load { .. }) {
         complete(ctx, &insn, len, case.answer);
     }
     Ok(())
