@@ -22,6 +22,3 @@ pub use law::{entries_fit, one_spelling, read_back};
 pub use reading::decode;
 pub use replaying::{ReplayError, Replayed, replay, replay_front};
 pub use writing::encode;
-
-#[cfg(test)]
-mod tests;

@@ -75,6 +75,3 @@ pub fn replay(alloc: Global, start: &Start, journal: &Journal) -> Result<Run, Re
         Some(at) => Err(ReplayError::BadEntry { at }),
     }
 }
-
-#[cfg(test)]
-mod tests;
