@@ -12,6 +12,3 @@ mod reading;
 
 pub use fixed::read_text;
 pub use reading::{ReadError, Refusal, read_bytes, read_u8, read_u16, read_u32, read_u64, refused};
-
-#[cfg(test)]
-mod tests;

@@ -17,6 +17,3 @@ mod saving;
 pub use law::accepted_is_whole;
 pub use loading::{LoadFault, load, load_gated};
 pub use saving::{save, save_from};
-
-#[cfg(test)]
-mod tests;

@@ -16,6 +16,3 @@ mod places;
 
 pub use guest_ram::GuestRam;
 pub use law::{writes_keep_code, writes_keep_size};
-
-#[cfg(test)]
-mod tests;

@@ -13,6 +13,3 @@ mod word;
 pub use digits::{after_prefix, digit, hex_number, number, numeral};
 pub use line::{content, first_line, utf8_of};
 pub use word::{Separators, after_byte, cut_at, words};
-
-#[cfg(test)]
-mod tests;

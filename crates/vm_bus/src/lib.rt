@@ -12,6 +12,3 @@ mod ports;
 
 pub use area::{Area, area_at};
 pub use ports::port;
-
-#[cfg(test)]
-mod tests;

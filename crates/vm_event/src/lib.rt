@@ -10,6 +10,3 @@
 mod events;
 
 pub use events::{Events, EventsFull, Source};
-
-#[cfg(test)]
-mod tests;

@@ -26,8 +26,6 @@ mod mem_sink;
 mod mem_text;
 mod overwrite;
 mod sink;
-#[cfg(test)]
-mod tests;
 mod text_source;
 
 pub use failed_name::FailedName;

@@ -13,8 +13,6 @@ mod file_image;
 mod files;
 mod kept_file;
 mod out_sink;
-#[cfg(test)]
-mod tests;
 
 pub use file_host::FileHost;
 pub use file_image::FileImage;

@@ -13,6 +13,3 @@ mod reading;
 pub use error::{ImageError, ImageKind};
 pub use law::faults_are_all;
 pub use reading::read;
-
-#[cfg(test)]
-mod tests;

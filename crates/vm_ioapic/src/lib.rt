@@ -21,6 +21,3 @@ pub use ioapic::Ioapic;
 pub use messages::Messages;
 pub use pin::Pin;
 pub use register::Register;
-
-#[cfg(test)]
-mod tests;

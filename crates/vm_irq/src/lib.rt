@@ -9,6 +9,3 @@
 mod destination;
 
 pub use destination::targets;
-
-#[cfg(test)]
-mod tests;

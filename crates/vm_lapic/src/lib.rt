@@ -18,6 +18,3 @@ mod register;
 
 pub use effect::{LapicEffect, Posted};
 pub use lapic::Lapic;
-
-#[cfg(test)]
-mod tests;

@@ -39,6 +39,3 @@ pub use script::{Order, Script};
 pub use seq::Seq;
 pub use stage::{MeetKind, Owned};
 pub use text::Text;
-
-#[cfg(test)]
-mod tests;

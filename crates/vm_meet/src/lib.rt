@@ -13,6 +13,3 @@ mod rendezvous;
 
 pub use meeting::Meeting;
 pub use rendezvous::{Meet, UnderWay};
-
-#[cfg(test)]
-mod tests;

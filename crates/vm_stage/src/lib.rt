@@ -12,6 +12,3 @@
 mod stage_cell;
 
 pub use stage_cell::{Refused, StageCell, To};
-
-#[cfg(test)]
-mod tests;

@@ -15,6 +15,3 @@ mod law;
 pub use callouts::Callouts;
 pub use fired::Fired;
 pub use law::each_fires_once;
-
-#[cfg(test)]
-mod tests;

@@ -29,6 +29,3 @@ mod view;
 pub use pass::{Busy, Held, Pass};
 pub use turnstile::Turnstile;
 pub use view::{Ended, View};
-
-#[cfg(test)]
-mod tests;

@@ -13,6 +13,3 @@ mod uart;
 
 pub use register::Register;
 pub use uart::Uart;
-
-#[cfg(test)]
-mod tests;

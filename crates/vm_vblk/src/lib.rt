@@ -19,6 +19,3 @@ mod window;
 pub use pulled::{Pulled, WindowEffect};
 pub use register::Register;
 pub use window::Window;
-
-#[cfg(test)]
-mod tests;

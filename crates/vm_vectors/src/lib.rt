@@ -10,6 +10,3 @@ mod vector_set;
 mod words;
 
 pub use vector_set::VectorSet;
-
-#[cfg(test)]
-mod tests;

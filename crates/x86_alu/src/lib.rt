@@ -21,6 +21,3 @@ pub use flags::{Flags, only_these_change};
 pub use op::{AluOp, BitOp};
 pub use product::{div, mul};
 pub use shifts::shift;
-
-#[cfg(test)]
-mod tests;

@@ -22,6 +22,3 @@ mod same;
 
 pub use encoder::{encode, encode_labelled, encoded_decodes, labelled, spelled};
 pub use labels::Labels;
-
-#[cfg(test)]
-mod tests;

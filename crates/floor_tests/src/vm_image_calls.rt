@@ -1,6 +1,6 @@
-use crate::{ImageError, ImageKind, faults_are_all, read};
 use std::alloc::{AllocError, Global};
 use std::test::Fail;
+use vm_image::{ImageError, ImageKind, faults_are_all, read};
 
 /// The file of an image of nine bytes, all of them code, that writes an A and halts.
 const FIRST: [u8; 33] = [

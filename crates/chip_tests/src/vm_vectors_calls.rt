@@ -1,4 +1,4 @@
-use crate::VectorSet;
+use vm_vectors::VectorSet;
 
 // Vector v is bit v % 8 of byte v / 8, and bit v % 32 of word v / 32.
 #[test]

@@ -1,5 +1,5 @@
-use crate::Meet;
 use vm_law::{CpuSet, MeetKind};
+use vm_meet::Meet;
 
 // Two vCPUs, each about to change the interrupt routing: the first opens a meeting of both, the second can't; each takes
 // one turn, and the second turn closes it.

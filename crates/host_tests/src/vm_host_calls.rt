@@ -1,8 +1,8 @@
-use crate::{
+use std::test::Fail;
+use vm_host::{
     FailedName, Gate, Host, HostFault, Image, MemHost, MemSink, MemText, NoGate, Place, Sink,
     TextSource,
 };
-use std::test::Fail;
 use vm_law::OutOfMemory;
 
 #[test]

@@ -1,8 +1,8 @@
-use crate::{
+use std::test::Fail;
+use text_reader::{
     Separators, after_byte, after_prefix, content, cut_at, digit, first_line, hex_number, number,
     numeral, utf8_of, words,
 };
-use std::test::Fail;
 
 #[test]
 fn lines(rt: HostRuntime) {

@@ -1,4 +1,4 @@
-use crate::{Events, EventsFull};
+use vm_event::{Events, EventsFull};
 
 // Ids come lowest first; a source is told once it is enabled and raised, each once and by ascending id.
 #[test]

@@ -1,4 +1,4 @@
-use crate::{Area, area_at, port};
+use vm_bus::{Area, area_at, port};
 
 /// Code and RAM of the rows.
 const CODE: u64 = 0x2000;

@@ -2,13 +2,13 @@
 ghost use Rattle.std.specs.Prelude.{◌≡◌, false, []};
 ghost use Rattle.vm_turn.specs.History.{Adds};
 
-use crate::{Busy, Held, Pass, Turnstile};
 use std::alloc::Global;
 use std::sync::Wait;
 use std::test::*;
 use std::thread;
 use std::thread::Threads;
 use vm_law::{Entry, Journal, Logged, Seq, Signed};
+use vm_turn::{Busy, Held, Pass, Turnstile};
 
 /// A number, and a plain list of entries.
 #[derive(Drop)]

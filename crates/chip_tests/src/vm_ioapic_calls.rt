@@ -1,5 +1,5 @@
-use crate::{Ioapic, RteChange};
 use std::process::Abort;
+use vm_ioapic::{Ioapic, RteChange};
 use vm_law::{Dest, Message, Mode};
 
 const SELECT: u32 = 0x00;

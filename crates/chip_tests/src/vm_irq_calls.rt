@@ -1,4 +1,4 @@
-use crate::targets;
+use vm_irq::targets;
 use vm_law::{Dest, Message, Mode};
 
 #[test]

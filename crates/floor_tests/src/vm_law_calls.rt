@@ -1,5 +1,5 @@
-use crate::{CpuSet, OutOfMemory, Seq, Text};
 use std::test::Fail;
+use vm_law::{CpuSet, OutOfMemory, Seq, Text};
 
 #[test]
 fn lists_are_lists(rt: HostRuntime) -> Result<(), Fail> {

@@ -1,7 +1,7 @@
-use crate::{FileHost, OutSink};
 use std::fs;
 use std::test::Fail;
 use vm_host::{Host, HostFault, Image, Sink};
+use vm_hostreal::{FileHost, OutSink};
 
 #[test]
 fn a_file_is_made_written_and_read(rt: HostRuntime) -> Result<(), Fail> {

@@ -1,4 +1,4 @@
-use crate::{GuestRam, writes_keep_code, writes_keep_size};
+use guest_ram::{GuestRam, writes_keep_code, writes_keep_size};
 use std::test::Fail;
 use vm_law::{Bytes, FlatImage, Seq};
 

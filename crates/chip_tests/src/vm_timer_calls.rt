@@ -1,4 +1,4 @@
-use crate::{Callouts, each_fires_once};
+use vm_timer::{Callouts, each_fires_once};
 
 // A periodic timer with 10 left and a span of 100 fires once in a tick of 1,024 and then has 100 - 1,014 mod 100 = 86
 // left. Of two that fire in one tick, the one with less left comes first.

@@ -1,6 +1,6 @@
 //! Each call once. What a processor answers to some 600 operations are cases of the program `x86_cases`.
-use crate::{AluOp, BitOp, Flags, alu, bits, div, mul, only_these_change, shift};
 use vm_law::{ShiftOp, Width};
+use x86_alu::{AluOp, BitOp, Flags, alu, bits, div, mul, only_these_change, shift};
 
 // Every bit of RFLAGS but the six status flags: no call reads or changes one of them.
 const OTHERS: u64 = 0xFFFF_FFFF_FFFF_F72A;

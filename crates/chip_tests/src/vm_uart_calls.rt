@@ -1,4 +1,4 @@
-use crate::Uart;
+use vm_uart::Uart;
 
 /// Offsets, by the names of their registers.
 const DATA: u8 = 0;

@@ -1,4 +1,4 @@
-use crate::{Lapic, LapicEffect, Posted};
+use vm_lapic::{Lapic, LapicEffect, Posted};
 use vm_law::{Dest, LapicState, Message, Mode};
 use vm_vectors::VectorSet;
 

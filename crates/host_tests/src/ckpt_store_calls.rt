@@ -1,4 +1,4 @@
-use super::*;
+use ckpt_store::*;
 use std::test::Fail;
 use vm_host::{HostFault, MemHost, MemText};
 

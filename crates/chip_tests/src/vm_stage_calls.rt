@@ -1,5 +1,5 @@
-use crate::{Refused, StageCell, To};
 use vm_law::Owned;
+use vm_stage::{Refused, StageCell, To};
 
 // A pass takes an idle vCPU, runs it and gives it back; another pass moves nothing of it.
 #[test]

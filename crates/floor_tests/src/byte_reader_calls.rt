@@ -1,4 +1,4 @@
-use crate::{ReadError, read_bytes, read_text, read_u8, read_u16, read_u32, read_u64};
+use byte_reader::{ReadError, read_bytes, read_text, read_u8, read_u16, read_u32, read_u64};
 
 #[test]
 fn numbers_are_read_low_byte_first(rt: HostRuntime) {

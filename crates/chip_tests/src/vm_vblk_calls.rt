@@ -1,8 +1,8 @@
 ghost use Rattle.vm_vblk.specs.Window.{LiesOver};
 
-use crate::{Pulled, Register, Window, WindowEffect};
 use arrayvec::ArrayVec;
 use vm_law::{Bytes, Kind, Request, Segment};
+use vm_vblk::{Pulled, Register, Window, WindowEffect};
 
 /// Memory of 1,024 bytes, of which 16 are code.
 #[derive(Drop)]

@@ -1,5 +1,5 @@
-use crate::{Labels, encode, encode_labelled, encoded_decodes, labelled, spelled};
 use vm_law::{ArithmeticOp, Insn, Loc, Op, Src, Width};
+use x86_encode::{Labels, encode, encode_labelled, encoded_decodes, labelled, spelled};
 
 /// ADD of a number to RBX.
 fn add(number: i64) -> Insn {
