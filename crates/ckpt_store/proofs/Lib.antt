@@ -1,5 +1,4 @@
 pub mod Gates
 mod Moments
-mod Savings
 mod Streams
 mod Torns

@@ -1,5 +1,5 @@
 -- What crashes may leave over several calls on one file.
-use Rattle.std.proofs.Common.{inl, inr, ⊎_elim, ℕ, ◌≤◌, ◌≡◌, List, subst, arith}
+use Rattle.std.proofs.Common.{⊎_elim, ℕ, ◌≤◌, ◌≡◌, List, subst}
 use Rattle.vm_host.specs.Crash.{Passes, AddsTorn, Torn, Only, SinceEarlier}
 
 -- a write whose torn outcomes have P

@@ -1,1 +1,0 @@
--- The promise of writing a text, from its steps.
