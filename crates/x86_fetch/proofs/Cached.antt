@@ -1,7 +1,6 @@
 -- A write to memory and the table of its code.
 use Rattle.std.proofs.Common.{◌≡◌, ℕ, ◌+◌, ◌≤◌, List, Option, length, subst, sym}
 use Rattle.vm_law.specs.Memory.{Memory, code_of, written}
-use Rattle.guest_ram.specs.GuestRam.{WritesKeepCode}
 use Rattle.x86_fetch.specs.declared.table.Place.{Place}
 use Rattle.x86_fetch.specs.Kept.{AreKept, ChangesOnly}
 use Rattle.x86_fetch.proofs.Changes.{write_changes}
@@ -11,9 +10,3 @@ pub right_after : (m new : Memory) (at : ℕ) (piece : List ℕ) (before after :
     → ((old now : List ℕ) → AreKept old before → ChangesOnly old now at (length piece) → AreKept now after) → AreKept (code_of new) after
 right_after m new at piece before after le is kept forget =
     subst (λ (x : Memory). AreKept (code_of x) after) (sym is) (forget (code_of m) (code_of (written m at piece)) kept (write_changes m at piece le))
-
--- a write above the code leaves it right
-pub right_still : (m new : Memory) (at : ℕ) (piece : List ℕ) (places : List (Option Place)) → WritesKeepCode → m.code ≤ at → at + length piece ≤ length m.bytes → new ≡ written m at piece → AreKept (code_of m) places
-    → AreKept (code_of new) places
-right_still m new at piece places law above le is kept =
-    subst (λ (x : Memory). AreKept (code_of x) places) (sym is) (subst (λ (code : List ℕ). AreKept code places) (sym (law m at piece above le).part) kept)

@@ -142,14 +142,17 @@ impl Bytes for CachedRam {
 
     ghost spare = { λ r. r.spare };
 
+    #[inline(always)]
     fn size(&self) -> u64 {
         self.ram.size()
     }
 
+    #[inline(always)]
     fn code(&self) -> u64 {
         self.ram.code()
     }
 
+    #[inline(always)]
     fn read(&self, at: u64, into: &mut [u8]) {
         self.ram.read(at, into);
     }
