@@ -10,7 +10,7 @@ use vm_journal::{ReplayError, Replayed, replay, replay_front};
 use vm_law::{
     Bytes, Entry, FlatImage, Journal, Order, OutOfMemory, Owned, Plan, Seq, Signed, Text,
 };
-use vm_machine::{Cpu, Next, Origin, Run, Start, Why, all_local, next_of};
+use vm_machine::{Cpu, Next, Origin, Run, Start, Why};
 
 /// A guest that goes step by step from its start on.
 #[derive(Drop)]
@@ -292,9 +292,9 @@ impl Guest {
     fn next(&self, digits: &str, out: &mut String) -> Result<(), CaseError> {
         let ctx = &self.cpu(digits)?.ctx;
         let ram = &self.run.machine().ram;
-        match next_of(ram, ctx) {
-            Next::Local { len, .. } if all_local(ram, ctx, 1) => write!(out, "local:{len}")?,
-            Next::Shared { len, .. } if !all_local(ram, ctx, 1) => write!(out, "shared:{len}")?,
+        match ram.next_of(ctx) {
+            Next::Local { len, .. } if ram.all_local(ctx, 1) => write!(out, "local:{len}")?,
+            Next::Shared { len, .. } if !ram.all_local(ctx, 1) => write!(out, "shared:{len}")?,
             Next::Undefined => out.push_str("undefined")?,
             Next::OutOfCode => out.push_str("end")?,
             Next::Local { .. } | Next::Shared { .. } => out.push_str("differs")?,

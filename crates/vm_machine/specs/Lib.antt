@@ -1,6 +1,4 @@
 pub mod State
-pub mod Fetching
-pub mod Slices
 pub mod Stepping
 pub mod Owners
 pub mod Running

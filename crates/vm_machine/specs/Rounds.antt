@@ -5,7 +5,7 @@ use Rattle.vm_law.specs.declared.journal.Entry.TheVariants.{Slice}
 use Rattle.vm_law.specs.declared.journal.Signed.{Signed}
 use Rattle.vm_machine.specs.declared.start.Start.{Start}
 use Rattle.vm_machine.specs.State.{State, cpu_at, seat_at, code_of, is_running}
-use Rattle.vm_machine.specs.Slices.{most_local}
+use Rattle.x86_fetch.specs.Slices.{most_local}
 use Rattle.vm_machine.specs.Starting.{boot}
 use Rattle.vm_machine.specs.History.{after_all}
 use Rattle.vm_machine.specs.Turns.{is_exit_due, first_lawful}

@@ -10,12 +10,12 @@ use Rattle.vm_law.specs.declared.context.Stop.{Stop}
 use Rattle.vm_law.specs.declared.context.Stop.TheVariants as stop
 use Rattle.vm_machine.specs.declared.state.Seat.{Seat}
 use Rattle.vm_machine.specs.declared.state.Why.TheVariants.{Stopped}
-use Rattle.vm_machine.specs.declared.fetching.Next.{Next}
-use Rattle.vm_machine.specs.declared.fetching.Next.TheVariants.{Local, Shared, Undefined, OutOfCode}
+use Rattle.x86_fetch.specs.declared.fetching.Next.{Next}
+use Rattle.x86_fetch.specs.declared.fetching.Next.TheVariants.{Local, Shared, Undefined, OutOfCode}
 use Rattle.vm_machine.specs.State.{State, is_cpu, cpu_at, seat_at, with_cpu, with_seat, with_ram, code_of, is_frozen, is_running, is_starter, versions_after}
 use Rattle.vm_machine.specs.Stepping.{Outcome, performed, undefined, stopped}
-use Rattle.vm_machine.specs.Fetching.{next_of, is_local_next}
-use Rattle.vm_machine.specs.Slices.{all_local, stepped_by}
+use Rattle.x86_fetch.specs.Fetching.{next_of, is_local_next}
+use Rattle.x86_fetch.specs.Slices.{all_local, stepped_by}
 
 -- what is left of the grants of all vCPUs
 unfoldable pub open_grants : List Seat → ℕ

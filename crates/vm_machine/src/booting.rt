@@ -7,9 +7,9 @@ ghost use Rattle.vm_machine.specs.Sound.{IsSoundState};
 use crate::copying::script_copy;
 use crate::start::{Origin, Start};
 use crate::state::{Core, Cpu, Machine, Seat};
-use guest_ram::GuestRam;
 use std::alloc::Global;
 use vm_law::{Ctx, FlatImage, OutOfMemory, Owned, Seq};
+use x86_fetch::CachedRam;
 
 /// The bytes of a page of memory.
 const PAGE: u64 = 4096;
@@ -104,7 +104,7 @@ fn boot_machine(alloc: Global, start: &Start) -> Result<Machine, OutOfMemory>
 {
     let image = image_of(&start.origin);
     let cpus = boot_cpus(alloc, start.plan.cpus, image.entry)?;
-    let ram = GuestRam::new(alloc, start.plan.memory, image)?;
+    let ram = CachedRam::new(alloc, start.plan.memory, image)?;
     Ok(Machine {
         cpus,
         ram,

@@ -8,9 +8,10 @@
 //!
 //! Built are Claim, Enter, Slice, Step, Exit, Yield, Done for the waits, End and Close, with all instructions:
 //! a Slice runs those that touch a vCPU's own registers, a Step one that reaches memory or a port, with the exception
-//! that it may raise. A guest may write its own code: an instruction is fetched from memory as it is, and each page of
-//! the code has a version, which counts the Steps that stored into it. An entry of another kind is lawful nowhere. No device is wired in yet: the data port of the
-//! serial port takes bytes for the console, other ports give all ones, and the devices' windows give 0.
+//! that it may raise. A guest may write its own code: an instruction is what the bytes in memory decode as when it runs,
+//! and each page of the code has a version, which counts the Steps that stored into it. An entry of another kind is lawful
+//! nowhere. No device is wired in yet: the data port of the serial port takes bytes for the console, other ports give all
+//! ones, and the devices' windows give 0.
 //!
 //! The definitions say besides what a legal history is, what it shows, and which entries an actor adds in its
 //! turn. The stages of a vCPU follow FreeBSD's vmm(4), and the instructions the Intel SDM, volume 2; the table
@@ -20,18 +21,15 @@
 mod booting;
 mod control;
 mod copying;
-mod fetching;
 mod owners;
 mod run;
 mod running;
-mod slices;
 mod start;
 mod state;
 mod stepping;
 mod table;
 
-pub use fetching::{Next, next_of};
 pub use run::Run;
-pub use slices::{all_local, run_slice};
 pub use start::{Origin, Start};
 pub use state::{Cpu, Machine, Meeting, Seat, Why};
+pub use x86_fetch::{CachedRam, Next};

@@ -4,15 +4,14 @@ ghost use Rattle.vm_machine.specs.declared.state.Why.{Why};
 ghost use Rattle.vm_machine.specs.State as state;
 ghost use Rattle.vm_machine.specs.Control as control_spec;
 ghost use Rattle.vm_machine.specs.Running as running_spec;
-ghost use Rattle.vm_machine.specs.Slices.{LocalRun, most_local};
+ghost use Rattle.x86_fetch.specs.Slices.{LocalRun, most_local};
 ghost use Rattle.vm_machine.specs.Starting as starting;
 ghost use Rattle.vm_machine.specs.Sound.{IsSoundState};
 ghost use Rattle.vm_machine.specs.Table as table_spec;
 
 use crate::booting::boot;
 use crate::control::{is_eager, is_quiet};
-use crate::running::open_grants;
-use crate::slices::run_slice;
+use crate::running::{open_grants, run_ahead};
 use crate::start::Start;
 use crate::state::{Core, Cpu, Machine, Why};
 use crate::table;
@@ -109,16 +108,17 @@ impl Run {
         ensures step { self.new.state ≡ table_spec.after self.old.state (record { by = by; entry = Entry.Slice cpu n }) }
         ensures room { self.new.room ≡ self.old.room }
     {
-        table::put_slice(&mut self.core, by, cpu, n, ctx);
+        table::put_slice(&mut self.core, by, cpu, n, &ctx);
     }
 
     /// Runs local instructions of the code as memory holds it, from a context on and at most `most`, and says how many it
-    /// ran. The run stays.
-    pub fn run_ahead(&self, ctx: &mut Ctx, most: u16) -> u16
-        ensures ran { LocalRun (state.code_of self.now.state.machine) ctx.old result ctx.new }
-        ensures most { result ≡ most_local (state.code_of self.now.state.machine) ctx.old most }
+    /// ran. The run stays; what it decodes is kept, so that neither a later run ahead nor a Step decodes it again.
+    pub fn run_ahead(&mut self, ctx: &mut Ctx, most: u16) -> u16
+        ensures same { self.new ≡ self.old }
+        ensures ran { LocalRun (state.code_of self.old.state.machine) ctx.old result ctx.new }
+        ensures most { result ≡ most_local (state.code_of self.old.state.machine) ctx.old most }
     {
-        run_slice(&self.core.machine.ram, ctx, most)
+        run_ahead(&mut self.core, ctx, most)
     }
 
     /// What holds of every run: it has 1 to 16 vCPUs, each with a seat, a version for each page of its code, and no more

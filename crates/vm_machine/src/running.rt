@@ -1,19 +1,17 @@
 //! A vCPU runs: Enter, Slice, Step.
 ghost use Rattle.std.specs.Prelude.{◌≡◌, ◌<◌, ◌≤◌, ◌+◌, ◌^◌, length, slice_index, IsTrue, Some, is_some, IfSome};
-ghost use Rattle.vm_law.specs.Memory.{code_of};
 ghost use Rattle.vm_machine.specs.State as state;
 ghost use Rattle.vm_machine.specs.Running as spec;
-ghost use Rattle.vm_machine.specs.Slices as slices;
+ghost use Rattle.x86_fetch.specs.Slices as slices;
 ghost use Rattle.vm_machine.specs.declared.state.Why.{Why};
-ghost use Rattle.vm_machine.specs.declared.fetching.Next.{Next};
+ghost use Rattle.x86_fetch.specs.declared.fetching.Next.{Next};
 ghost use Rattle.vm_machine.specs.Sound.{IsSoundState};
 
-use crate::fetching::{Next, next_of};
-use crate::slices::{all_local, run_many, run_slice};
 use crate::state::{Core, Meeting, Seat, Why};
 use crate::stepping::{Performed, perform, undefined};
 use vm_law::{Bytes, Ctx, Insn, Owned, Seq, Stop};
 use x86_exec::Stored;
+use x86_fetch::Next;
 
 const LARGEST_GRANT: u16 = 1024;
 
@@ -109,37 +107,47 @@ pub(crate) fn may_slice(core: &Core, by: u16, i: u8, count: u16) -> bool
     ensures { result ≡ spec.may_slice core.now.state by i count }
 {
     has_slice(core, by, i, count)
-        && all_local(
-            &core.machine.ram,
-            &core.machine.cpus.at(i as usize).ctx,
-            count,
-        )
+        && core
+            .machine
+            .ram
+            .all_local(&core.machine.cpus.at(i as usize).ctx, count)
 }
 
-/// The context after a Slice, where it may be run.
+/// Runs local instructions of the code as memory holds it, from a context on and at most `most`, and says how many it ran.
+/// The run stays.
+pub(crate) fn run_ahead(core: &mut Core, ctx: &mut Ctx, most: u16) -> u16
+    ensures same { core.new ≡ core.old }
+    ensures ran { slices.LocalRun (state.code_of core.old.state.machine) ctx.old result ctx.new }
+    ensures most { result ≡ slices.most_local (state.code_of core.old.state.machine) ctx.old most }
+{
+    core.machine.ram.run_slice(ctx, most)
+}
+
+/// The context after a Slice, where it may be run. The run stays.
 #[tactic(auto, unfolding(crate::specs::Running::may_slice, crate::specs::Running::has_slice))]
-pub(crate) fn slice_ahead(core: &Core, by: u16, i: u8, count: u16) -> Option<Ctx>
-    requires { IsSoundState core.now.state }
-    ensures may { is_some result ≡ spec.may_slice core.now.state by i count }
-    ensures ran { IfSome result (slices.LocalRun (state.code_of core.now.state.machine) (state.cpu_at core.now.state i).ctx count) }
+pub(crate) fn slice_ahead(core: &mut Core, by: u16, i: u8, count: u16) -> Option<Ctx>
+    requires { IsSoundState core.old.state }
+    ensures same { core.new ≡ core.old }
+    ensures may { is_some result ≡ spec.may_slice core.old.state by i count }
+    ensures ran { IfSome result (slices.LocalRun (state.code_of core.old.state.machine) (state.cpu_at core.old.state i).ctx count) }
 {
     if !has_slice(core, by, i, count) {
         return None;
     }
     let mut ctx = ctx_of(core, i);
-    let ran = run_slice(&core.machine.ram, &mut ctx, count);
+    let ran = run_ahead(core, &mut ctx, count);
     if ran == count { Some(ctx) } else { None }
 }
 
 /// The Slice whose context after it was computed elsewhere.
 #[tactic(auto, unfolding(crate::specs::Running::may_slice, crate::specs::Running::has_slice, crate::specs::Running::after_slice))]
-pub(crate) fn put_slice(core: &mut Core, by: u16, i: u8, count: u16, ctx: Ctx)
+pub(crate) fn put_slice(core: &mut Core, by: u16, i: u8, count: u16, ctx: &Ctx)
     requires sound { IsSoundState core.old.state }
     requires may { IsTrue (spec.may_slice core.old.state by i count) }
-    requires reached { ctx ≡ slices.stepped_by (state.code_of core.old.state.machine) (state.cpu_at core.old.state i).ctx count }
+    requires reached { ctx.now ≡ slices.stepped_by (state.code_of core.old.state.machine) (state.cpu_at core.old.state i).ctx count }
     ensures { core.new ≡ record core.old { state = spec.after_slice core.old.state i count } }
 {
-    core.machine.cpus.at_mut(i as usize).ctx = ctx;
+    core.machine.cpus.at_mut(i as usize).ctx = *ctx;
     spend(core, i, count);
 }
 
@@ -149,9 +157,9 @@ pub(crate) fn slice(core: &mut Core, by: u16, i: u8, count: u16)
     requires may { IsTrue (spec.may_slice core.old.state by i count) }
     ensures { core.new ≡ record core.old { state = spec.after_slice core.old.state i count } }
 {
-    let mut ctx = core.machine.cpus.at(i as usize).ctx;
-    run_many(&core.machine.ram, &mut ctx, count);
-    put_slice(core, by, i, count, ctx);
+    let mut ctx = ctx_of(core, i);
+    core.machine.ram.run_many(&mut ctx, count);
+    put_slice(core, by, i, count, &ctx);
 }
 
 /// What stands at RIP of a vCPU.
@@ -159,10 +167,22 @@ fn next_at(core: &Core, i: u8) -> Next
     requires { IsTrue (state.is_cpu core.now.state i) }
     ensures next { result ≡ spec.next_at core.now.state i }
 {
-    next_of(&core.machine.ram, &core.machine.cpus.at(i as usize).ctx)
+    core.machine
+        .ram
+        .next_of(&core.machine.cpus.at(i as usize).ctx)
 }
 
-#[tactic(auto, unfolding(crate::specs::Running::may_step))]
+/// Keeps the instruction at RIP of a vCPU, so that it isn't decoded again. The run stays.
+fn keep_next(core: &mut Core, i: u8)
+    requires { IsTrue (state.is_cpu core.old.state i) }
+    ensures { core.new ≡ core.old }
+{
+    core.machine
+        .ram
+        .keep_next(&core.machine.cpus.at(i as usize).ctx);
+}
+
+#[tactic(auto, unfolding(crate::specs::Running::may_step, x86_fetch::specs::Slices::stands_local))]
 pub(crate) fn may_step(core: &Core, by: u16, i: u8) -> bool
     requires { IsSoundState core.now.state }
     ensures { result ≡ spec.may_step core.now.state by i }
@@ -177,10 +197,7 @@ pub(crate) fn may_step(core: &Core, by: u16, i: u8) -> bool
     if core.ended.is_some() || is_starter(&core.machine.meet, i) {
         return false;
     }
-    match next_at(core, i) {
-        Next::Local { .. } => false,
-        Next::Shared { .. } | Next::Undefined | Next::OutOfCode => true,
-    }
+    !core.machine.ram.stands_local(&cpu.ctx)
 }
 
 /// A Stop ends the run and changes nothing else.
@@ -222,11 +239,11 @@ fn touch(versions: &mut Seq<u64>, code: u64, stored: Stored)
 }
 
 /// Notes what an instruction stored and what it gave to the console, on the state that has its memory already.
-fn note(core: &mut Core, done: Performed)
+fn note(core: &mut Core, done: &Performed)
     requires sound { IsSoundState core.old.state }
     requires room { 1 ≤ core.old.room }
-    requires stored { spec.IsInside core.old.state.machine.ram done.stored }
-    ensures state { core.new.state ≡ spec.noted core.old.state done.stored done.output }
+    requires stored { spec.IsInside core.old.state.machine.ram done.now.stored }
+    ensures state { core.new.state ≡ spec.noted core.old.state done.now.stored done.now.output }
     ensures room { core.old.room ≤ core.new.room + 1 }
     ensures spare { core.new.spare ≡ core.old.spare }
 {
@@ -241,14 +258,14 @@ fn note(core: &mut Core, done: Performed)
 
 /// Notes what an instruction did, whose memory stands already.
 #[tactic(auto, unfolding(crate::specs::Running::settled_by, crate::specs::Running::spent))]
-fn settle(core: &mut Core, i: u8, ctx: &Ctx, done: Performed)
+fn settle(core: &mut Core, i: u8, ctx: &Ctx, done: &Performed)
     requires sound { IsSoundState core.old.state }
     requires cpu { IsTrue (state.is_cpu core.old.state i) }
     requires left { 1 ≤ (state.seat_at core.old.state i).left }
     requires room { 1 ≤ core.old.room }
-    requires stored { spec.IsInside core.old.state.machine.ram done.stored }
+    requires stored { spec.IsInside core.old.state.machine.ram done.now.stored }
     ensures state { core.new.state ≡ spec.settled_by core.old.state i
-        (spec.outcome ctx.now core.old.state.machine.ram done.stored done.halted done.output done.stop) done.stop }
+        (spec.outcome ctx.now core.old.state.machine.ram done.now.stored done.now.halted done.now.output done.now.stop) done.now.stop }
     ensures ram { core.new.state.machine.ram ≡ core.old.state.machine.ram }
     ensures room { core.old.room ≤ core.new.room + 1 }
     ensures spare { core.new.spare ≡ core.old.spare }
@@ -288,7 +305,7 @@ fn share(core: &mut Core, i: u8, insn: &Insn, len: u8)
 {
     let mut ctx = ctx_of(core, i);
     let done = perform(&mut ctx, &mut core.machine.ram, insn, len);
-    settle(core, i, &ctx, done);
+    settle(core, i, &ctx, &done);
 }
 
 /// Bytes that no instruction spells.
@@ -306,7 +323,7 @@ fn refuse(core: &mut Core, i: u8)
 {
     let mut ctx = ctx_of(core, i);
     let done = undefined(&mut ctx, &mut core.machine.ram);
-    settle(core, i, &ctx, done);
+    settle(core, i, &ctx, &done);
 }
 
 #[tactic(auto, unfolding(crate::specs::Running::may_step, crate::specs::Running::after_step, crate::specs::Running::outcome_of, crate::specs::Running::settled_by))]
@@ -320,6 +337,7 @@ pub(crate) fn step(core: &mut Core, by: u16, i: u8)
     ensures room { core.old.room ≤ core.new.room + 1 }
     ensures spare { core.old.spare ≤ core.new.spare + 6 }
 {
+    keep_next(core, i);
     match next_at(core, i) {
         Next::Local { .. } => {}
         Next::Shared { insn, len } => share(core, i, &insn, len),

@@ -1,8 +1,8 @@
 //! What a run consists of.
 
-use guest_ram::GuestRam;
 use std::marker::Model;
 use vm_law::{CpuSet, Ctx, MeetKind, Order, Owned, Seq, Stop};
+use x86_fetch::CachedRam;
 
 /// A virtual processor.
 #[derive(Debug, Drop)]
@@ -34,7 +34,7 @@ pub struct Machine {
     /// The vCPUs by their numbers, at most 16.
     pub cpus: Seq<Cpu>,
     /// Memory, with the code part at its front.
-    pub ram: GuestRam,
+    pub ram: CachedRam,
     /// Whether a pause is wished.
     pub pause: bool,
     /// The open rendezvous.

@@ -4,9 +4,9 @@ ghost use Rattle.vm_law.specs.Memory.{KeepsSize};
 ghost use Rattle.vm_machine.specs.Running.{IsInside};
 ghost use Rattle.vm_machine.specs.Stepping as spec;
 
-use guest_ram::GuestRam;
 use vm_law::{Ctx, Insn, Op, Stop, Width};
 use x86_exec::{Effect, Stored, complete, perform as execute};
+use x86_fetch::CachedRam;
 use x86_trap::deliver;
 
 /// The data port of the first serial port.
@@ -74,7 +74,7 @@ fn pushed_rip(ctx: &Ctx, op: Op, len: u8) -> u64
 
 /// Delivers an exception or a software interrupt, which pushes this RIP.
 #[tactic(auto, unfolding(crate::specs::Stepping::trapped))]
-fn trap(ctx: &mut Ctx, ram: &mut GuestRam, rip: u64, vector: u8, error: Option<u64>) -> Performed
+fn trap(ctx: &mut Ctx, ram: &mut CachedRam, rip: u64, vector: u8, error: Option<u64>) -> Performed
     requires { 2 ≤ ram.old.spare }
     ensures ctx { ctx.new ≡ (spec.trapped ctx.old rip ram.old.memory vector error).ctx }
     ensures memory { ram.new.memory ≡ (spec.trapped ctx.old rip ram.old.memory vector error).memory }
@@ -103,7 +103,7 @@ fn trap(ctx: &mut Ctx, ram: &mut GuestRam, rip: u64, vector: u8, error: Option<u
 
 /// Bytes that no instruction spells.
 #[tactic(auto, unfolding(crate::specs::Stepping::undefined))]
-pub(crate) fn undefined(ctx: &mut Ctx, ram: &mut GuestRam) -> Performed
+pub(crate) fn undefined(ctx: &mut Ctx, ram: &mut CachedRam) -> Performed
     requires { 2 ≤ ram.old.spare }
     ensures ctx { ctx.new ≡ (spec.undefined ctx.old ram.old.memory).ctx }
     ensures memory { ram.new.memory ≡ (spec.undefined ctx.old ram.old.memory).memory }
@@ -122,7 +122,7 @@ pub(crate) fn undefined(ctx: &mut Ctx, ram: &mut GuestRam) -> Performed
 
 /// One instruction of `len` bytes.
 #[tactic(auto, unfolding(crate::specs::Stepping::performed, crate::specs::Stepping::performed_as))]
-pub(crate) fn perform(ctx: &mut Ctx, ram: &mut GuestRam, insn: &Insn, len: u8) -> Performed
+pub(crate) fn perform(ctx: &mut Ctx, ram: &mut CachedRam, insn: &Insn, len: u8) -> Performed
     requires { 4 ≤ ram.old.spare }
     ensures ctx { ctx.new ≡ (spec.performed ctx.old insn.now len ram.old.memory).ctx }
     ensures memory { ram.new.memory ≡ (spec.performed ctx.old insn.now len ram.old.memory).memory }

@@ -1,7 +1,7 @@
 //! The table of entries: which is lawful, and what it does.
 ghost use Rattle.std.specs.Prelude.{◌≡◌, ◌≤◌, ◌+◌, length, IsTrue, if◌then◌else◌};
 ghost use Rattle.vm_machine.specs.State as state;
-ghost use Rattle.vm_machine.specs.Slices.{LocalRun};
+ghost use Rattle.x86_fetch.specs.Slices.{LocalRun};
 ghost use Rattle.vm_machine.specs.Table as spec;
 ghost use Rattle.vm_machine.specs.Sound.{IsSoundState};
 
@@ -95,10 +95,10 @@ pub(crate) fn step(core: &mut Core, by: u16, entry: Entry)
 
 /// The step of a lawful Slice, whose context after it was computed elsewhere.
 #[tactic(auto, unfolding(crate::specs::Table::lawful, crate::specs::Table::allowed, crate::specs::Table::effect))]
-pub(crate) fn put_slice(core: &mut Core, by: u16, cpu: u8, n: u16, ctx: Ctx)
+pub(crate) fn put_slice(core: &mut Core, by: u16, cpu: u8, n: u16, ctx: &Ctx)
     requires sound { IsSoundState core.old.state }
     requires lawful { IsTrue (spec.lawful core.old.state by (Entry.Slice cpu n)) }
-    requires ran { LocalRun (state.code_of core.old.state.machine) (state.cpu_at core.old.state cpu).ctx n ctx }
+    requires ran { LocalRun (state.code_of core.old.state.machine) (state.cpu_at core.old.state cpu).ctx n ctx.now }
     ensures state { core.new ≡ record core.old { state = spec.counted (spec.effect core.old.state by (Entry.Slice cpu n)) } }
     ensures sound { IsSoundState core.new.state }
 {
@@ -146,7 +146,7 @@ fn advance_slice(core: &mut Core, by: u16, cpu: u8, n: u16) -> bool
     match running::slice_ahead(core, by, cpu, n) {
         None => false,
         Some(ctx) => {
-            put_slice(core, by, cpu, n, ctx);
+            put_slice(core, by, cpu, n, &ctx);
             true
         }
     }

@@ -27,7 +27,7 @@ use Rattle.vm_run.specs.Cut.{IsCut, IsCutOff, due_by, or_outside}
 use Rattle.vm_run.proofs.Ended.{stays_ended}
 use Rattle.std.specs.Prelude.{slice_index_or, replicate}
 use Rattle.vm_machine.specs.State.{MachineState, code_of, unstarted_cpu, ctx_from, page_count}
-use Rattle.vm_machine.specs.Slices.{LocalRun}
+use Rattle.x86_fetch.specs.Slices.{LocalRun}
 use Rattle.vm_run.proofs.Consoles.{entry_grows}
 use Rattle.vm_run.proofs.Singles.{signed, rank}
 use Rattle.vm_run.specs.Single.{resting, Single, core_of, IsSingle}

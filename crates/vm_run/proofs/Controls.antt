@@ -10,8 +10,8 @@ use Rattle.vm_law.specs.declared.journal.Entry.TheVariants.{Slice, Done, End, Cl
 use Rattle.vm_law.specs.declared.journal.EndCause.TheVariants.{Budget, Outside}
 use Rattle.vm_machine.specs.declared.state.Why.{Why}
 use Rattle.vm_machine.specs.declared.state.Why.TheVariants as why
-use Rattle.vm_machine.specs.Fetching.{next_of, is_local_next}
-use Rattle.vm_machine.specs.Slices.{LocalRun, all_local, most_local, stands_local}
+use Rattle.x86_fetch.specs.Fetching.{next_of, is_local_next}
+use Rattle.x86_fetch.specs.Slices.{LocalRun, all_local, most_local, stands_local}
 use Rattle.vm_machine.specs.State.{cpu_at, code_of}
 use Rattle.vm_machine.specs.History.{after_all}
 use Rattle.vm_machine.specs.Owners.{may_claim, may_yield}

@@ -13,13 +13,13 @@ use Rattle.vm_law.specs.declared.journal.Signed.{Signed}
 use Rattle.vm_machine.specs.declared.state.Why.{Why}
 use Rattle.vm_machine.specs.declared.state.Why.TheVariants.{Stopped, Finished}
 use Rattle.vm_machine.specs.declared.state.Why.TheVariants as why
-use Rattle.vm_machine.specs.declared.fetching.Next.{Next}
-use Rattle.vm_machine.specs.declared.fetching.Next.TheVariants.{Local, Shared, Undefined, OutOfCode}
+use Rattle.x86_fetch.specs.declared.fetching.Next.{Next}
+use Rattle.x86_fetch.specs.declared.fetching.Next.TheVariants.{Local, Shared, Undefined, OutOfCode}
 use Rattle.vm_law.specs.declared.context.Stop.{Stop}
 use Rattle.vm_law.specs.declared.context.Stop.TheVariants.{Fetch}
 use Rattle.vm_machine.specs.Stepping.{Outcome, performed, undefined, stopped}
-use Rattle.vm_machine.specs.Fetching.{next_of, is_local_next}
-use Rattle.vm_machine.specs.Slices.{stepped_by}
+use Rattle.x86_fetch.specs.Fetching.{next_of, is_local_next}
+use Rattle.x86_fetch.specs.Slices.{stepped_by}
 use Rattle.vm_machine.specs.State.{cpu_at, seat_at, versions_after}
 use Rattle.vm_machine.specs.Owners.{may_claim, after_claim, may_exit, after_exit, may_yield, after_yield}
 use Rattle.vm_machine.specs.Running.{open_grants, may_enter, after_enter, spent, may_slice, after_slice, may_step, outcome_of, settled_by, settled, after_step, has_slice}

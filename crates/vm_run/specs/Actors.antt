@@ -2,7 +2,7 @@
 use Rattle.std.specs.Prelude.{◌≡◌, ℕ, ◌-◌, ◌<◌, true, min, List, [], ◌∷◌, ◌++◌, Some}
 use Rattle.std.specs.Vec.{vec_len, vec_capacity}
 use Rattle.vm_machine.specs.State.{cpu_at, code_of}
-use Rattle.vm_machine.specs.Slices.{LocalRun}
+use Rattle.x86_fetch.specs.Slices.{LocalRun}
 use Rattle.vm_law.specs.declared.journal.Signed.{Signed}
 use Rattle.vm_machine.specs.State.{State}
 use Rattle.vm_machine.specs.Turns.{IsGreatestSlice, IsOrderlyFrom}

@@ -2,7 +2,7 @@
 ghost use Rattle.std.specs.Prelude.{◌≡◌, ◌≤◌, ◌<◌, ◌+◌, true, false, [], ◌∷◌, ◌++◌, length, IsTrue, IfOk, IfSome, OnOk, Some, is_some};
 ghost use Rattle.std.specs.List.{find};
 ghost use Rattle.vm_machine.specs.State as state;
-ghost use Rattle.vm_machine.specs.Slices.{LocalRun};
+ghost use Rattle.x86_fetch.specs.Slices.{LocalRun};
 ghost use Rattle.vm_machine.specs.Starting.{IsSound, boot};
 ghost use Rattle.vm_machine.specs.Table.{lawful, after};
 ghost use Rattle.vm_machine.specs.History.{after_all};
@@ -161,11 +161,11 @@ impl Playing {
     }
 
     /// What the runner ran outside comes back.
-    fn bring_back(&mut self, away: Away)
-        requires away { IsAway self.old.run.state away }
+    fn bring_back(&mut self, away: &Away)
+        requires away { IsAway self.old.run.state away.now }
         requires room { 1 ≤ room_in self.old }
-        ensures state { self.new.run.state ≡ after_all self.old.run.state (rounds.brought_back 0 away.count) }
-        ensures history { self.new.entries.items ≡ self.old.entries.items ++ rounds.brought_back 0 away.count }
+        ensures state { self.new.run.state ≡ after_all self.old.run.state (rounds.brought_back 0 away.now.count) }
+        ensures history { self.new.entries.items ≡ self.old.entries.items ++ rounds.brought_back 0 away.now.count }
         ensures room { room_in self.old ≤ room_in self.new + 1 }
     {
         if away.count > 0 {
@@ -178,13 +178,27 @@ impl Playing {
         }
     }
 
-    /// The runner's work outside: as many local instructions as its grant allows.
-    #[tactic(auto, unfolding(vm_machine::specs::Rounds::run_outside))]
-    pub(crate) fn go_out(&self) -> Away
+    /// Nothing is outside.
+    pub(crate) fn none_out(&self) -> Away
         requires { length self.now.run.state.machine.cpus ≡ 1 }
-        ensures count { result.count ≡ rounds.run_outside self.now.run.state 0 }
+        ensures count { result.count ≡ 0 }
         ensures ran { LocalRun (state.code_of self.now.run.state.machine)
             (state.cpu_at self.now.run.state 0).ctx result.count result.ctx }
+    {
+        Away {
+            count: 0,
+            ctx: self.run.cpu(0).ctx,
+        }
+    }
+
+    /// The runner's work outside: as many local instructions as its grant allows. Run and history stay.
+    #[tactic(auto, unfolding(vm_machine::specs::Rounds::run_outside))]
+    fn go_out(&mut self) -> Away
+        requires { length self.old.run.state.machine.cpus ≡ 1 }
+        ensures same { self.new ≡ self.old }
+        ensures count { result.count ≡ rounds.run_outside self.old.run.state 0 }
+        ensures ran { LocalRun (state.code_of self.old.run.state.machine)
+            (state.cpu_at self.old.run.state 0).ctx result.count result.ctx }
     {
         let cpu = self.run.cpu(0);
         let mut ctx = cpu.ctx;
@@ -209,7 +223,7 @@ impl Playing {
         ensures away { IsAway self.new.run.state result }
         ensures continues { Continues self.old self.new }
     {
-        self.bring_back(away);
+        self.bring_back(&away);
         self.runner_choice();
         self.go_out()
     }

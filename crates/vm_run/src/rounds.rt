@@ -93,7 +93,7 @@ fn run_rounds<S: Sink>(
     ensures solo { result ≡ Ok tt
         → IsByRounds playing.old.run.state playing.old.entries.items playing.new.entries.items }
 {
-    let mut away = playing.go_out();
+    let mut away = playing.none_out();
     let mut sent = 0;
     'rounds: loop {
         playing.reserve(alloc, MOST_ENTRIES)?;

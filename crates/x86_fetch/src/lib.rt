@@ -5,15 +5,18 @@
 //!
 //! A [`Table`] keeps instructions that were decoded. It is *right* for a code where each instruction that it keeps is what
 //! the code's bytes decode as at its address; the calls here have that as a condition, leave it so, and answer what they
-//! would answer without a table. After a write into the code, [`Table::forget`] makes it right again.
+//! would answer without a table. After a write into the code, [`Table::forget`] makes it right again. [`CachedRam`] is guest
+//! memory with a table that is right for its code at all times.
 #![tactic(auto)]
 
+mod cached_ram;
 mod code;
 mod fetching;
 mod law;
 mod slices;
 mod table;
 
+pub use cached_ram::CachedRam;
 pub use code::Code;
 pub use fetching::{Next, keep_at, next_of};
 pub use law::writes_change_only;

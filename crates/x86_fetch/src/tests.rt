@@ -1,10 +1,10 @@
 use crate::{
-    Code, Next, Table, all_local, keep_at, look_local, next_of, run_many, run_slice, stands_local,
-    step_local, writes_change_only,
+    CachedRam, Code, Next, Table, all_local, keep_at, look_local, next_of, run_many, run_slice,
+    stands_local, step_local, writes_change_only,
 };
 use guest_ram::GuestRam;
 use std::test::Fail;
-use vm_law::{Ctx, FlatImage, Seq};
+use vm_law::{Bytes, Ctx, FlatImage, Seq};
 
 /// mov eax, 5; add eax, eax; hlt.
 const CODE: [u8; 8] = [0xB8, 5, 0, 0, 0, 0x01, 0xC0, 0xF4];
@@ -70,5 +70,36 @@ fn a_table(rt: HostRuntime) -> Result<(), Fail> {
     table.keep(7, found.insn, 1);
     table.clear();
     assert!(rt; table.kept(7).is_none());
+    Ok(())
+}
+
+/// Memory with a table runs what it kept, and after a write what the bytes are then. A copy runs the same.
+#[test]
+fn cached_memory(rt: HostRuntime) -> Result<(), Fail> {
+    let payload = Seq::from_slice(rt.alloc(), &CODE)?;
+    let image = FlatImage {
+        entry: 0,
+        code: 8,
+        payload,
+    };
+    let mut ram = CachedRam::new(rt.alloc(), 1048576, &image)?;
+    let mut ctx = START;
+    assert!(rt; ram.stands_local(&ctx) && ram.all_local(&ctx, 2) && !ram.all_local(&ctx, 3));
+    assert!(rt; ram.run_slice(&mut ctx, 9) == 2 && ctx.regs[0] == 10);
+    ram.keep_next(&ctx);
+    assert!(rt; matches!(ram.next_of(&ctx), Next::Shared { len: 1, .. }));
+    ram.reserve(rt.alloc(), 2)?;
+    ram.is_sound();
+    ram.write(1, &[9]);
+    let mut copy = ram.copy(rt.alloc())?;
+    let mut again = START;
+    ram.run_many(&mut again, 2);
+    assert!(rt; again.regs[0] == 18);
+    let mut byte = [0];
+    ram.read(1, &mut byte);
+    assert!(rt; byte == [9] && ram.size() == 1048576 && ram.code() == 8);
+    let mut third = START;
+    assert!(rt; copy.run_slice(&mut third, 1) == 1 && third.regs[0] == 9);
+    assert!(rt; ram.page(0).is_some() && copy.page(1).is_none());
     Ok(())
 }

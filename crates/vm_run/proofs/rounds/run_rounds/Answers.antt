@@ -13,8 +13,8 @@ use Rattle.vm_run.proofs.Continued.{continues_on, continues_same, away_stays, se
 use Rattle.vm_run.proofs.Ended.{closed_by_choice}
 use Rattle.vm_run.proofs.rounds.run_rounds.Goals as goal
 
-pub go_out-away-requires : goal.go_out-away-requires
-go_out-away-requires g c =
+pub none_out-away-requires : goal.none_out-away-requires
+none_out-away-requires g c =
     single_length c.args.playing.now.run.state c.requires.single
 
 pub returns-in_err-reserve-clause-continues : goal.returns-in_err-reserve-clause-continues
@@ -147,10 +147,10 @@ rounds-init g c =
       single = c.requires.single;
       going = c.requires.going;
       inside = c.requires.inside;
-      count = c.go_out-away.ensures.count;
-      away = goes_out c.args.playing.now.run.state c.go_out-away.result c.requires.single c.requires.going c.go_out-away.ensures.count c.go_out-away.ensures.ran;
+      count = c.none_out-away.ensures.count ∙ sym c.requires.rests;
+      away = goes_out c.args.playing.now.run.state c.none_out-away.result c.requires.single c.requires.going (c.none_out-away.ensures.count ∙ sym c.requires.rests) c.none_out-away.ensures.ran;
       continues = continues_same c.args.playing.now c.args.playing.now refl refl;
-      rounds = (0, ap (λ (n : ℕ). between c.args.playing.now.run.state c.args.playing.now.entries.items n) (c.go_out-away.ensures.count ∙ c.requires.rests), refl);
+      rounds = (0, ap (λ (n : ℕ). between c.args.playing.now.run.state c.args.playing.now.entries.items n) c.none_out-away.ensures.count, refl);
       within = omega arith;
       took = record { told = refl; taken = λ told. sym (append-nil (g.S.Sink.seen c.args.console.now).taken) };
       faults = refl;

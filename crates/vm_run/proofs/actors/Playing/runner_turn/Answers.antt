@@ -1,10 +1,11 @@
-use Rattle.std.proofs.Common.{◌≡◌, ◌∙◌, sym, ap, length, false, List, ◌++◌, append_assoc}
+use Rattle.std.proofs.Common.{◌≡◌, ◌∙◌, sym, ap, subst, length, false, List, ◌++◌, append_assoc}
+use Rattle.vm_run.specs.declared.actors.Playing.{Playing}
 use Rattle.vm_law.specs.declared.journal.Signed.{Signed}
 use Rattle.vm_machine.specs.History.{after_all}
 use Rattle.vm_machine.specs.Rounds.{chosen, brought_back}
 use Rattle.vm_run.proofs.Continued.{returned_lawful, returned_orderly, returned_state}
 use Rattle.vm_machine.specs.State.{State}
-use Rattle.vm_run.specs.Actors.{by_choice, by_return, returned}
+use Rattle.vm_run.specs.Actors.{IsAway, Continues, by_choice, by_return, returned}
 use Rattle.vm_run.specs.Single.{IsSingle}
 use Rattle.vm_run.proofs.Controls.{single_length, single_back, returns_from, goes_out}
 use Rattle.vm_run.proofs.actors.Playing.runner_turn.Goals as goal
@@ -24,13 +25,14 @@ pub returns-clause-single : goal.returns-clause-single
 returns-clause-single c =
     let r = returns_from c.args.self.now.run.state c.args.away c.requires.single c.requires.going c.requires.away in
     let same : c.runner_choice.new.self.run.state ≡ by_return c.args.self.now.run.state c.args.away.count = c.runner_choice.ensures.state ∙ ap (λ (t : State). by_choice t 1) c.bring_back.ensures.state in
-    record { one = r.to; is = ap (λ (t : State). t) same ∙ r.is; fits = r.fits }
+    let single : IsSingle c.runner_choice.new.self.run.state = record { one = r.to; is = ap (λ (t : State). t) same ∙ r.is; fits = r.fits } in
+    subst (λ (p : Playing). IsSingle p.run.state) (sym c.go_out.ensures.same) single
 
 pub returns-clause-going : goal.returns-clause-going
 returns-clause-going c =
     let r = returns_from c.args.self.now.run.state c.args.away c.requires.single c.requires.going c.requires.away in
     let same : c.runner_choice.new.self.run.state ≡ by_return c.args.self.now.run.state c.args.away.count = c.runner_choice.ensures.state ∙ ap (λ (t : State). by_choice t 1) c.bring_back.ensures.state in
-    ap (λ (t : State). t.closed) same ∙ ap (λ (s : State). s.closed) r.is ∙ r.going
+    ap (λ (p : Playing). p.run.state.closed) c.go_out.ensures.same ∙ ap (λ (t : State). t.closed) same ∙ ap (λ (s : State). s.closed) r.is ∙ r.going
 
 pub returns-clause-away : goal.returns-clause-away
 returns-clause-away c =
@@ -38,11 +40,13 @@ returns-clause-away c =
     let same : c.runner_choice.new.self.run.state ≡ by_return c.args.self.now.run.state c.args.away.count = c.runner_choice.ensures.state ∙ ap (λ (t : State). by_choice t 1) c.bring_back.ensures.state in
     let single : IsSingle c.runner_choice.new.self.run.state = record { one = r.to; is = ap (λ (t : State). t) same ∙ r.is; fits = r.fits } in
     let going : c.runner_choice.new.self.run.state.closed ≡ false = ap (λ (t : State). t.closed) same ∙ ap (λ (s : State). s.closed) r.is ∙ r.going in
-    goes_out c.runner_choice.new.self.run.state c.go_out.result single going c.go_out.ensures.count c.go_out.ensures.ran
+    subst (λ (p : Playing). IsAway p.run.state c.go_out.result) (sym c.go_out.ensures.same)
+    (goes_out c.runner_choice.new.self.run.state c.go_out.result single going c.go_out.ensures.count c.go_out.ensures.ran)
 
 pub returns-clause-continues : goal.returns-clause-continues
 returns-clause-continues c =
     let same : c.runner_choice.new.self.run.state ≡ by_return c.args.self.now.run.state c.args.away.count = c.runner_choice.ensures.state ∙ ap (λ (t : State). by_choice t 1) c.bring_back.ensures.state in
+    let continues : Continues c.args.self.now c.runner_choice.new.self =
     record {
       added = returned c.args.self.now.run.state c.args.away.count;
       history =
@@ -54,3 +58,5 @@ returns-clause-continues c =
       orderly = returned_orderly c.args.self.now.run.state c.args.away c.requires.away;
       state = same ∙ sym (returned_state c.args.self.now.run.state c.args.away.count);
     }
+    in
+    subst (λ (p : Playing). Continues c.args.self.now p) (sym c.go_out.ensures.same) continues

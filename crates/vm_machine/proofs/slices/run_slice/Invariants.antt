@@ -1,6 +1,0 @@
-use Rattle.vm_machine.specs.Slices as spec
-use Rattle.vm_law.specs.Memory.{code_of}
-use Rattle.vm_machine.proofs.slices.run_slice.Given as goal
-
-abbrev pub invariant-loop-done : goal.invariant-loop-done
-invariant-loop-done l = spec.LocalRun (code_of l.ram.memory) l.fn.ctx l.done l.ctx
