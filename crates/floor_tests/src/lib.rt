@@ -20,3 +20,5 @@ mod vm_law_calls;
 mod x86_alu_calls;
 #[cfg(test)]
 mod x86_encode_calls;
+#[cfg(test)]
+mod x86_fetch_calls;

@@ -22,6 +22,3 @@ pub use fetching::{Next, keep_at, next_of};
 pub use law::writes_change_only;
 pub use slices::{all_local, look_local, run_many, run_slice, stands_local, step_local};
 pub use table::{Found, Place, Table};
-
-#[cfg(test)]
-mod tests;

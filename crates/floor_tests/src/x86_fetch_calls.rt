@@ -1,10 +1,10 @@
-use crate::{
-    CachedRam, Code, Next, Table, all_local, keep_at, look_local, next_of, run_many, run_slice,
-    stands_local, step_local, writes_change_only,
-};
 use guest_ram::GuestRam;
 use std::test::Fail;
 use vm_law::{Bytes, Ctx, FlatImage, Seq};
+use x86_fetch::{
+    CachedRam, Code, Next, Table, all_local, keep_at, look_local, next_of, run_many, run_slice,
+    stands_local, step_local, writes_change_only,
+};
 
 /// mov eax, 5; add eax, eax; hlt.
 const CODE: [u8; 8] = [0xB8, 5, 0, 0, 0, 0x01, 0xC0, 0xF4];
