@@ -2,19 +2,22 @@
 # How fast guests run: host instructions a guest instruction by valgrind, and user time beside Bochs.
 #
 # Usage, from anywhere: examples/bench/bench.sh
-# The program is built first where it isn't (by ./vmrun). valgrind is Debian's package `valgrind`. Bochs is Debian's
-# packages `bochs` and `bochsbios` with `vgabios`:
-#     apt-get install --no-install-recommends bochs bochsbios vgabios
+# The program is built first where it isn't (by ./vmrun), or VMRUN names one that is. valgrind is Debian's package
+# `valgrind`, and Bochs is Debian's packages `bochs` and `bochsbios` with `vgabios`:
+#     apt-get install --no-install-recommends valgrind bochs bochsbios vgabios
 # Where one of them isn't installed its lines are left out. Every figure is the difference of a short and a long loop, so
 # that neither the start of a program nor Bochs' BIOS counts. docs/SPEED.md says what came of it.
 set -eu
 here=$(cd "$(dirname "$0")" && pwd)
 top=$(cd "$here/../.." && pwd)
-"$top/vmrun" solo "$top/examples/a.img" >/dev/null
-program=$top/crates/vmrun/out/vmrun
+if [ -z "${VMRUN:-}" ]; then
+    "$top/vmrun" solo "$top/examples/a.img" >/dev/null
+fi
+program=${VMRUN:-$top/crates/vmrun/out/vmrun}
 work=$(mktemp -d)
 trap 'rm -rf "$work"' EXIT
 cd "$work"
+declare -a solo replay
 
 loop() { python3 "$here/loops.py" "$@"; }
 
