@@ -11,8 +11,6 @@
 
 mod law;
 mod list;
-#[cfg(test)]
-mod plain;
 mod progress;
 mod queue;
 mod saving;
@@ -21,6 +19,3 @@ mod starts;
 pub use law::{an_id_names_one, first_is_free};
 pub use progress::{Cancelled, Finished, Progress, Unfinished};
 pub use queue::BlkQueue;
-
-#[cfg(test)]
-mod tests;

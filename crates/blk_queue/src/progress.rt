@@ -6,7 +6,7 @@ use arrayvec::ArrayVec;
 use vm_law::{Kind, Request, Segment};
 
 /// How far an unfinished request is. Source: FreeBSD usr.sbin/bhyve/block_if.c, `enum blockstat`.
-#[derive(Clone, Copy, Debug, PartialEq, Eq)]
+#[derive(Clone, Copy, PartialEq, Eq)]
 pub enum Progress {
     /// It waits for a worker.
     Pending,
@@ -145,7 +145,7 @@ impl Progress {
 }
 
 /// An unfinished request, its id, and how far it is.
-#[derive(Debug, Drop)]
+#[derive(Drop)]
 pub struct Unfinished {
     pub id: u32,
     pub request: Request,
@@ -153,7 +153,7 @@ pub struct Unfinished {
 }
 
 /// What is told of a request that has left.
-#[derive(Clone, Copy, Debug, PartialEq, Eq)]
+#[derive(Clone, Copy, PartialEq, Eq)]
 pub struct Finished {
     /// 1 where it failed, else 0. Source: OASIS virtio 1.2, section 5.2.6, VIRTIO_BLK_S_OK and VIRTIO_BLK_S_IOERR.
     pub status: u8,

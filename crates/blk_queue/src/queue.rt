@@ -13,7 +13,7 @@ use std::marker::Model;
 use vm_law::{OutOfMemory, Request};
 
 /// The unfinished requests of a block device. Contracts see the next id and the list of requests by ascending id.
-#[derive(Debug, Drop)]
+#[derive(Drop)]
 pub struct BlkQueue {
     pub(crate) next: u32,
     pub(crate) list: Vec<Unfinished>,

@@ -13,7 +13,7 @@ use vm_law::OutOfMemory;
 const SECTORS: u64 = 8192;
 
 /// Where a request starts, and how many sectors it has.
-#[derive(Clone, Copy, Debug)]
+#[derive(Clone, Copy)]
 pub(crate) struct Mark {
     pub start: u64,
     pub count: u32,
@@ -21,7 +21,7 @@ pub(crate) struct Mark {
 }
 
 /// An index of requests by their starts. Contracts see its marks by ascending start.
-#[derive(Debug, Drop)]
+#[derive(Drop)]
 pub(crate) struct Starts {
     marks: Vec<Mark>,
 }

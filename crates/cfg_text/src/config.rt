@@ -8,7 +8,7 @@ use std::marker::Model;
 
 /// The variables of a configuration. Contracts see the list of their names with their expanded values, in the order of
 /// the variables' first lines.
-#[derive(Debug, Drop)]
+#[derive(Drop)]
 pub struct Config {
     variables: IndexMap<String, String>,
 }

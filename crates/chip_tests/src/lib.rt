@@ -1,9 +1,14 @@
-//! The interrupt chips, the serial port, stages, meetings, events, timers and the window of a disk, by one call each.
+//! The interrupt chips, the serial port, stages, meetings, events, timers, the window of a disk and its requests, by
+//! one call each.
 //!
 //! Test functions for public calls that no program of cases runs. They stand here since a crate with test functions is
 //! proved twice.
 #![tactic(auto)]
 
+#[cfg(test)]
+mod blk_queue_calls;
+#[cfg(test)]
+mod plain_queue;
 #[cfg(test)]
 mod vm_event_calls;
 #[cfg(test)]

@@ -1,3 +1,4 @@
+use std::process::Abort;
 use vm_lapic::{Lapic, LapicEffect, Posted};
 use vm_law::{Dest, LapicState, Message, Mode};
 use vm_vectors::VectorSet;
@@ -18,48 +19,91 @@ fn enabled(cpu: u8) -> Lapic {
     lapic
 }
 
+/// A call, and what it gives.
+#[derive(Drop)]
+enum Step {
+    Post(u8, Posted),
+    /// The vector that is deliverable.
+    Due(Option<u8>),
+    /// The vector whose service begins.
+    Serve(Option<u8>),
+    Read(u32, u32),
+    Write(u32, u32, LapicEffect),
+}
+
+fn holds(lapic: &mut Lapic, step: &Step) -> bool {
+    match step {
+        Step::Post(vector, want) => lapic.post(*vector) == *want,
+        Step::Due(want) => lapic.deliverable() == *want,
+        Step::Serve(want) => served(lapic) == *want,
+        Step::Read(offset, want) => lapic.read(*offset) == *want,
+        Step::Write(offset, value, want) => lapic.write(*offset, *value) == *want,
+    }
+}
+
+fn run(rt: &impl Abort, lapic: &mut Lapic, steps: &[Step]) {
+    for (k, step) in steps.iter().enumerate() {
+        assert!(rt; holds(lapic, step), "step {k}");
+    }
+}
+
+const ENDED: LapicEffect = LapicEffect::Eoi {
+    vector: 0x31,
+    level: false,
+};
+
 // A vector that is in service holds back one of its class; an EOI lets it through.
+const SERVICE: [Step; 11] = [
+    Step::Post(0x31, Posted::Set),
+    Step::Post(0x31, Posted::Merged),
+    Step::Serve(Some(0x31)),
+    Step::Post(0x31, Posted::Set),
+    Step::Due(None),
+    Step::Write(EOI, 0, ENDED),
+    Step::Due(Some(0x31)),
+    Step::Serve(Some(0x31)),
+    Step::Write(EOI, 7, ENDED),
+    Step::Serve(None),
+    Step::Write(EOI, 0, LapicEffect::Nothing),
+];
+
 #[test]
 fn a_vector_is_posted_served_and_ended(rt: HostRuntime) {
-    let mut lapic = enabled(0);
-    assert_eq!(rt; lapic.post(0x31), Posted::Set);
-    assert_eq!(rt; lapic.post(0x31), Posted::Merged);
-    assert_eq!(rt; served(&mut lapic), Some(0x31));
-    assert_eq!(rt; lapic.post(0x31), Posted::Set);
-    assert_eq!(rt; lapic.deliverable(), None);
-    let ended = LapicEffect::Eoi {
-        vector: 0x31,
-        level: false,
-    };
-    assert_eq!(rt; lapic.write(EOI, 0), ended);
-    assert_eq!(rt; lapic.deliverable(), Some(0x31));
-    assert_eq!(rt; served(&mut lapic), Some(0x31));
-    assert_eq!(rt; lapic.write(EOI, 7), ended);
-    assert_eq!(rt; served(&mut lapic), None);
-    assert_eq!(rt; lapic.write(EOI, 0), LapicEffect::Nothing);
+    run(&rt, &mut enabled(0), &SERVICE);
 }
 
 // Only classes are compared.
+const PRIORITIES: [Step; 18] = [
+    Step::Write(TPR, 0x30, LapicEffect::Nothing),
+    Step::Post(0x3F, Posted::Set),
+    Step::Due(None),
+    Step::Post(0x40, Posted::Set),
+    Step::Due(Some(0x40)),
+    Step::Serve(Some(0x40)),
+    Step::Read(0xA0, 0x40),
+    Step::Due(None),
+    Step::Write(
+        EOI,
+        0,
+        LapicEffect::Eoi {
+            vector: 0x40,
+            level: false,
+        },
+    ),
+    Step::Due(None),
+    Step::Write(TPR, 0x2F, LapicEffect::Nothing),
+    Step::Read(0xA0, 0x2F),
+    Step::Due(Some(0x3F)),
+    Step::Post(15, Posted::Illegal),
+    Step::Write(SVR, 0xFF, LapicEffect::Nothing),
+    Step::Post(0x50, Posted::Ignored),
+    Step::Due(Some(0x3F)),
+    Step::Read(SVR, 0xFF),
+];
+
 #[test]
 fn priorities(rt: HostRuntime) {
-    let mut lapic = enabled(0);
-    lapic.write(TPR, 0x30);
-    assert_eq!(rt; lapic.post(0x3F), Posted::Set);
-    assert_eq!(rt; lapic.deliverable(), None);
-    assert_eq!(rt; lapic.post(0x40), Posted::Set);
-    assert_eq!(rt; lapic.deliverable(), Some(0x40));
-    assert_eq!(rt; served(&mut lapic), Some(0x40));
-    assert_eq!(rt; lapic.read(0xA0), 0x40);
-    assert_eq!(rt; lapic.deliverable(), None);
-    lapic.write(EOI, 0);
-    assert_eq!(rt; lapic.deliverable(), None);
-    lapic.write(TPR, 0x2F);
-    assert_eq!(rt; lapic.read(0xA0), 0x2F);
-    assert_eq!(rt; lapic.deliverable(), Some(0x3F));
-    assert_eq!(rt; lapic.post(15), Posted::Illegal);
-    lapic.write(SVR, 0xFF);
-    assert_eq!(rt; lapic.post(0x50), Posted::Ignored);
-    assert_eq!(rt; lapic.deliverable(), Some(0x3F));
+    run(&rt, &mut enabled(0), &PRIORITIES);
 }
 
 fn served(lapic: &mut Lapic) -> Option<u8> {
@@ -98,6 +142,25 @@ fn registers(rt: HostRuntime) {
     }
 }
 
+const SETS: [Step; 9] = [
+    Step::Read(0x170, 0x8000_0000),
+    Step::Read(0x1F0, 0x8000_0000),
+    Step::Read(0x190, 1),
+    Step::Read(0x220, 6),
+    Step::Read(0x270, 0),
+    Step::Read(0x221, 0),
+    Step::Write(
+        EOI,
+        0,
+        LapicEffect::Eoi {
+            vector: 0xFF,
+            level: true,
+        },
+    ),
+    Step::Read(0x170, 0),
+    Step::Read(0x1F0, 0x8000_0000),
+];
+
 #[test]
 fn sets_are_read_as_words(rt: HostRuntime) {
     let mut lapic = enabled(1);
@@ -109,25 +172,8 @@ fn sets_are_read_as_words(rt: HostRuntime) {
     level.insert(0xFF);
     level.insert(0x20);
     lapic.set_tmr(level);
-    let words = [
-        (0x170, 0x8000_0000),
-        (0x1F0, 0x8000_0000),
-        (0x190, 1),
-        (0x220, 6),
-        (0x270, 0),
-        (0x221, 0),
-    ];
-    for (offset, word) in words {
-        assert_eq!(rt; lapic.read(offset), word, "at {offset}");
-    }
-    let ended = LapicEffect::Eoi {
-        vector: 0xFF,
-        level: true,
-    };
-    assert_eq!(rt; lapic.copy().write(EOI, 0), ended);
-    assert_eq!(rt; lapic.write(EOI, 0), ended);
-    assert_eq!(rt; lapic.read(0x170), 0);
-    assert_eq!(rt; lapic.read(0x1F0), 0x8000_0000);
+    run(&rt, &mut lapic.copy(), &SETS);
+    run(&rt, &mut lapic, &SETS);
 }
 
 #[test]
@@ -143,15 +189,13 @@ fn commands(rt: HostRuntime) {
         (0x0000_0150, 0, 0x50, Mode::Dropped, Dest::One(0)),
     ];
     for (low, high, vector, mode, dest) in cases {
-        let mut lapic = Lapic::new(3);
-        assert_eq!(rt; lapic.write(ICR_HIGH, high), LapicEffect::Nothing);
-        let message = Message { vector, mode, dest };
-        assert_eq!(rt;
-            lapic.write(ICR_LOW, low),
-            LapicEffect::Send(message),
-            "command {low}"
-        );
-        assert_eq!(rt; lapic.read(ICR_LOW), low);
+        let sent = LapicEffect::Send(Message { vector, mode, dest });
+        let steps = [
+            Step::Write(ICR_HIGH, high, LapicEffect::Nothing),
+            Step::Write(ICR_LOW, low, sent),
+            Step::Read(ICR_LOW, low),
+        ];
+        run(&rt, &mut Lapic::new(3), &steps);
     }
 }
 
@@ -174,7 +218,7 @@ fn a_saved_chip(rt: HostRuntime) {
         timer_divide: 0xB,
     };
     let lapic = Lapic::from_saved(&state);
-    assert_eq!(rt; lapic.saved(), state);
+    assert!(rt; lapic.saved() == state);
     assert_eq!(rt; lapic.deliverable(), Some(0x41));
     assert_eq!(rt; lapic.read(ICR_HIGH), 0x0200_0000);
 }

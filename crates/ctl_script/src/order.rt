@@ -12,7 +12,7 @@ use text_reader::hex_number;
 use vm_law::{Order, Text};
 
 /// What the plan and the orders before say of any next one.
-#[derive(Clone, Copy, Debug)]
+#[derive(Clone, Copy)]
 pub struct Situation {
     /// Whether the machine is paused.
     pub paused: bool,

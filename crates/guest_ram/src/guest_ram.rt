@@ -12,7 +12,7 @@ use vm_law::{Bytes, FlatImage, OutOfMemory};
 ///
 /// Contracts see its bytes, how many of them are code (the first ones), which pages stand, and for how many more there is
 /// room.
-#[derive(Debug, Drop)]
+#[derive(Drop)]
 pub struct GuestRam {
     places: Vec<Option<Page>>,
     code: u64,

@@ -9,7 +9,7 @@ use vm_law::OutOfMemory;
 pub const PAGE_SIZE: usize = 4096;
 
 /// A page of memory that stands. Contracts see its 4,096 bytes.
-#[derive(Debug, Drop)]
+#[derive(Drop)]
 pub struct Page {
     bytes: Box<[u8; 4096]>,
 }

@@ -26,7 +26,7 @@ impl Answer {
 }
 
 /// What a command gave.
-#[derive(Debug, Drop)]
+#[derive(Drop)]
 pub enum Gave {
     Answer(Answer),
     Number(u64),

@@ -1,56 +1,6 @@
 use std::test::Fail;
-use vm_host::{
-    FailedName, Gate, Host, HostFault, Image, MemHost, MemSink, MemText, NoGate, Place, Sink,
-    TextSource,
-};
+use vm_host::{FailedName, Gate, HostFault, MemSink, MemText, NoGate, Place, Sink, TextSource};
 use vm_law::OutOfMemory;
-
-#[test]
-fn a_file_is_made_written_and_read(rt: HostRuntime) -> Result<(), Fail> {
-    let alloc = rt.alloc();
-    let mut host = MemHost::new(alloc);
-    assert_eq!(rt; host.length("f"), Err(HostFault::Missing));
-    assert!(rt; host.file("f").is_none());
-    host.make(alloc, "f")?;
-    host.write_at(alloc, "f", 0, b"abcd")?;
-    host.sync("f")?;
-    assert_eq!(rt; host.length("f")?, 4);
-    let mut into = [0; 4];
-    assert_eq!(rt; host.read_at("f", 2, &mut into)?, 2);
-    assert_eq!(rt; &into[..2], b"cd".as_slice());
-    host.put(alloc, "f", b"x")?;
-    let file = host.file("f").ok_or("f is there")?;
-    assert_eq!(rt; file, b"x".as_slice());
-    Ok(())
-}
-
-#[test]
-fn a_listed_call_fails(rt: HostRuntime) -> Result<(), Fail> {
-    let alloc = rt.alloc();
-    let mut host = MemHost::new(alloc);
-    assert!(rt; host.failed().is_empty());
-    host.fail(alloc, 0)?;
-    assert_eq!(rt; host.make(alloc, "f"), Err(HostFault::Failed));
-    assert_eq!(rt; host.failed(), b"f".as_slice());
-    host.make(alloc, "f")?;
-    Ok(())
-}
-
-#[test]
-fn an_image_is_lent_and_comes_back(rt: HostRuntime) -> Result<(), Fail> {
-    let alloc = rt.alloc();
-    let mut host = MemHost::new(alloc);
-    host.put(alloc, "d", &[1; 512])?;
-    host.fail_image(alloc, "d", 1)?;
-    let mut image = host.open_image(alloc, "d")?;
-    image.write_at(0, &[2; 512])?;
-    assert!(rt; image.sync().is_err());
-    image.sync()?;
-    host.close_image("d", image);
-    let file = host.file("d").ok_or("d is there")?;
-    assert_eq!(rt; file, [2; 512].as_slice());
-    Ok(())
-}
 
 #[test]
 fn a_failed_name_is_kept_up_to_its_limit(rt: HostRuntime) -> Result<(), Fail> {

@@ -1,7 +1,7 @@
 use vm_law::Request;
 
 /// What a chain asks for.
-#[derive(Debug, PartialEq, Drop)]
+#[derive(PartialEq, Drop)]
 pub enum Ask {
     /// A request that is carried out.
     Accept(Request),

@@ -6,7 +6,7 @@ use thiserror::Error;
 use vm_law::{OutOfMemory, Text};
 
 /// A command line.
-#[derive(Debug, Drop)]
+#[derive(Drop)]
 pub enum Command {
     /// Runs a virtual machine, each vCPU and block worker on a thread of its own.
     Run(RunWords),
@@ -34,7 +34,7 @@ pub enum Command {
 }
 
 /// What a run is told.
-#[derive(Debug, Drop)]
+#[derive(Drop)]
 pub struct RunWords {
     /// The configuration or the flat image.
     pub file: Text,
@@ -49,7 +49,7 @@ pub struct RunWords {
 }
 
 /// What is shown of a journal.
-#[derive(Debug, Drop)]
+#[derive(Drop)]
 pub struct InspectWords {
     /// The file that holds the journal.
     pub journal: Text,

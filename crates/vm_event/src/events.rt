@@ -9,7 +9,7 @@ use thiserror::Error;
 const SOURCES: usize = 32;
 
 /// An event source.
-#[derive(Clone, Copy, Debug, PartialEq, Eq)]
+#[derive(Clone, Copy, PartialEq, Eq)]
 pub struct Source {
     /// What it is for, by a number of the caller's own.
     pub kind: u8,
@@ -24,7 +24,7 @@ pub struct EventsFull;
 
 /// Up to 32 event sources. Contracts see a list of 32 places, in each of which a source may be: the source with an id
 /// stands at that place.
-#[derive(Debug, Drop)]
+#[derive(Drop)]
 pub struct Events {
     sources: [Option<Source>; SOURCES],
 }

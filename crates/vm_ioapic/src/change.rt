@@ -1,7 +1,7 @@
 use vm_law::Message;
 
 /// What follows from a write to the window.
-#[derive(Clone, Copy, Debug, PartialEq, Eq)]
+#[derive(Clone, Copy, PartialEq, Eq)]
 pub struct RteChange {
     /// Whether an entry routes differently now: its vector, delivery mode, destination mode, trigger mode or
     /// destination changed.

@@ -17,7 +17,7 @@ pub enum DeliveryMode {
 }
 
 /// An entry of the redirection table, without its remote IRR. Source: 82093AA, section 3.2.4.
-#[derive(Clone, Copy, Debug, PartialEq, Eq)]
+#[derive(Clone, Copy, PartialEq, Eq)]
 pub struct Redirection {
     pub vector: u8,
     pub mode: DeliveryMode,

@@ -14,7 +14,7 @@ use vm_vectors::VectorSet;
 const VERSION: u32 = 0x001F_0011;
 
 /// An I/O APIC with 32 pins. Contracts see it as the selected index, the ID, and the pins.
-#[derive(Debug, Drop)]
+#[derive(Drop)]
 pub struct Ioapic {
     pub(crate) select: u8,
     pub(crate) id: u8,

@@ -4,7 +4,7 @@ use std::marker::Model;
 use vm_law::{Dest, Message, Mode};
 
 /// At most 32 messages, in order. Contracts see them as a list.
-#[derive(Debug, Drop)]
+#[derive(Drop)]
 pub struct Messages {
     items: [Message; 32],
     len: usize,

@@ -3,7 +3,7 @@ use crate::entry::{Redirection, is_target};
 use vm_law::Message;
 
 /// An input pin.
-#[derive(Clone, Copy, Debug, PartialEq, Eq)]
+#[derive(Clone, Copy, PartialEq, Eq)]
 pub struct Pin {
     pub entry: Redirection,
     /// How often the pin is asserted.

@@ -29,7 +29,7 @@ impl From<OutOfMemory> for ReplayError {
 }
 
 /// What replaying a journal came to.
-#[derive(Debug, Drop)]
+#[derive(Drop)]
 pub struct Replayed {
     /// The run after the entries before the first that isn't lawful, or after all.
     pub run: Run,

@@ -14,7 +14,7 @@ pub enum Posted {
 }
 
 /// What a write does beyond the APIC itself.
-#[derive(Clone, Copy, Debug, PartialEq, Eq)]
+#[derive(Clone, Copy, PartialEq, Eq)]
 pub enum LapicEffect {
     Nothing,
     /// A vector's service ended; `level` tells whether it is in TMR, so that the I/O APIC is to hear of it.

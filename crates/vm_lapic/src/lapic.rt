@@ -17,7 +17,7 @@ const VERSION: u32 = 0x0005_0014;
 /// A local APIC. Contracts see it as a record of its registers, with IRR, ISR and TMR as sets.
 ///
 /// Source: Intel SDM volume 3, chapter 10.
-#[derive(Debug, Drop)]
+#[derive(Drop)]
 pub struct Lapic {
     cpu: u8,
     irr: VectorSet,

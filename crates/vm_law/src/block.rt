@@ -1,7 +1,7 @@
 use arrayvec::ArrayVec;
 
 /// A descriptor of a split virtqueue. Source: OASIS virtio 1.2, section 2.7.5.
-#[derive(Clone, Copy, Debug, Default, PartialEq, Eq)]
+#[derive(Clone, Copy, Default, PartialEq, Eq)]
 pub struct Descriptor {
     pub addr: u64,
     pub len: u32,
@@ -10,7 +10,7 @@ pub struct Descriptor {
 }
 
 /// A descriptor chain: the index of its first descriptor, and its descriptors in order.
-#[derive(Debug, PartialEq, Drop)]
+#[derive(PartialEq, Drop)]
 pub struct ChainList {
     pub head: u16,
     pub descriptors: ArrayVec<Descriptor, 128>,
@@ -32,7 +32,7 @@ pub struct Segment {
 }
 
 /// A block request that was accepted.
-#[derive(Debug, PartialEq, Drop)]
+#[derive(PartialEq, Drop)]
 pub struct Request {
     pub kind: Kind,
     /// The index of its chain's first descriptor.

@@ -1,7 +1,7 @@
 use arrayvec::ArrayVec;
 
 /// The state of a local APIC. Source: Intel SDM volume 3, section 10.4.
-#[derive(Clone, Copy, Debug, PartialEq, Eq)]
+#[derive(Clone, Copy, PartialEq, Eq)]
 pub struct LapicState {
     /// The number of its vCPU.
     pub cpu: u8,
@@ -23,7 +23,7 @@ pub struct LapicState {
 }
 
 /// The state of the I/O APIC. Source: the data sheet of Intel's 82093AA, and bhyve's vioapic.
-#[derive(Clone, Copy, Debug, PartialEq, Eq)]
+#[derive(Clone, Copy, PartialEq, Eq)]
 pub struct IoapicState {
     /// The selected register.
     pub select: u8,
@@ -35,7 +35,7 @@ pub struct IoapicState {
 }
 
 /// The state of the UART. Source: the data sheet of the 16550, and bhyve's uart_emul.
-#[derive(Debug, PartialEq, Drop)]
+#[derive(PartialEq, Drop)]
 pub struct UartState {
     pub ier: u8,
     pub lcr: u8,
@@ -51,7 +51,7 @@ pub struct UartState {
 }
 
 /// The state of a virtio block device's MMIO window. Source: OASIS virtio 1.2, section 4.2.2.
-#[derive(Clone, Copy, Debug, PartialEq, Eq)]
+#[derive(Clone, Copy, PartialEq, Eq)]
 pub struct WindowState {
     /// The disk's capacity.
     pub sectors: u64,

@@ -1,7 +1,7 @@
 /// The registers of a vCPU that instructions see, with the state of its interrupts.
 ///
 /// Source: Intel SDM volume 1, section 3.4, and volume 3, section 6.8.
-#[derive(Clone, Copy, Debug, PartialEq, Eq)]
+#[derive(Clone, Copy, PartialEq, Eq)]
 pub struct Ctx {
     /// RAX 0, RCX 1, RDX 2, RBX 3, RSP 4, RBP 5, RSI 6, RDI 7, R8 8 to R15 15.
     pub regs: [u64; 16],

@@ -12,7 +12,7 @@ pub enum Width {
 /// Registers are numbered RAX 0, RCX 1, RDX 2, RBX 3, RSP 4, RBP 5, RSI 6, RDI 7, R8 8 to R15 15.
 /// With `rip` the displacement counts from the next instruction, and there is neither base nor index.
 /// Source: Intel SDM volume 2, section 2.1.5 and 2.2.1.6.
-#[derive(Clone, Copy, Debug, PartialEq, Eq)]
+#[derive(Clone, Copy, PartialEq, Eq)]
 pub struct Mem {
     pub base: Option<u8>,
     pub index: Option<u8>,
@@ -23,7 +23,7 @@ pub struct Mem {
 }
 
 /// An operand that can be read and written.
-#[derive(Clone, Copy, Debug, PartialEq, Eq)]
+#[derive(Clone, Copy, PartialEq, Eq)]
 pub enum Loc {
     /// A register, 0 to 15, of the instruction's width.
     Reg(u8),
@@ -33,7 +33,7 @@ pub enum Loc {
 }
 
 /// An operand that is read: a place or a sign-extended immediate.
-#[derive(Clone, Copy, Debug, PartialEq, Eq)]
+#[derive(Clone, Copy, PartialEq, Eq)]
 pub enum Src {
     Loc(Loc),
     Imm(i64),
@@ -121,7 +121,7 @@ pub enum Condition {
 }
 
 /// An operation with its operands. Source: Intel SDM volume 2.
-#[derive(Clone, Copy, Debug, PartialEq, Eq)]
+#[derive(Clone, Copy, PartialEq, Eq)]
 pub enum Op {
     Alu(ArithmeticOp, Loc, Src),
     Test(Loc, Src),
@@ -191,7 +191,7 @@ pub enum Op {
 }
 
 /// An instruction.
-#[derive(Clone, Copy, Debug, PartialEq, Eq)]
+#[derive(Clone, Copy, PartialEq, Eq)]
 pub struct Insn {
     /// Whether LOCK stands before it.
     pub lock: bool,

@@ -10,7 +10,7 @@ pub enum EndCause {
 }
 
 /// One event of the machine.
-#[derive(Clone, Copy, Debug, PartialEq, Eq)]
+#[derive(Clone, Copy, PartialEq, Eq)]
 pub enum Entry {
     /// An idle vCPU is taken and frozen.
     Claim { cpu: u8 },
@@ -62,7 +62,7 @@ pub enum Entry {
 
 /// An entry with the number of the pass that added it: 0 for control, `1 + i` for vCPU `i`, and then
 /// the block workers, disk after disk.
-#[derive(Clone, Copy, Debug, PartialEq, Eq)]
+#[derive(Clone, Copy, PartialEq, Eq)]
 pub struct Signed {
     pub by: u16,
     pub entry: Entry,

@@ -1,5 +1,5 @@
 /// An interrupt message. Source: Intel SDM volume 3, section 10.6.
-#[derive(Clone, Copy, Debug, PartialEq, Eq)]
+#[derive(Clone, Copy, PartialEq, Eq)]
 pub struct Message {
     pub vector: u8,
     pub mode: Mode,

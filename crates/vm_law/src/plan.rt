@@ -2,7 +2,7 @@ use crate::seq::Seq;
 use crate::text::Text;
 
 /// A virtual machine as its configuration plans it.
-#[derive(Debug, Drop)]
+#[derive(Drop)]
 pub struct Plan {
     /// How many vCPUs, 1 to 16.
     pub cpus: u8,
@@ -19,7 +19,7 @@ pub struct Plan {
 }
 
 /// A disk of a plan.
-#[derive(Debug, Drop)]
+#[derive(Drop)]
 pub struct DiskPlan {
     /// The disk's file.
     pub path: Text,

@@ -2,7 +2,7 @@ use crate::seq::Seq;
 use crate::text::Text;
 
 /// An order of a control script.
-#[derive(Debug, Drop)]
+#[derive(Drop)]
 pub enum Order {
     /// Waits until nothing more can happen by itself.
     WaitQuiet,

@@ -7,6 +7,7 @@ use Rattle.std.proofs.lemmas.List.Sums.{sum_by-set}
 use Rattle.std.proofs.lemmas.Bool.{cases_eq, cases_lt, and_parts}
 use Rattle.std.proofs.lemmas.Bool.Decides.{nat_tests}
 use Rattle.std.proofs.lemmas.Grind.{common_steps, get_or-set_at}
+use Rattle.vm_law.specs.Memory.{Memory}
 use Rattle.vm_law.specs.declared.journal.Entry.{Entry}
 use Rattle.vm_law.specs.declared.journal.Entry.TheVariants.{Claim, Start, Enter, Slice, Step, Exit, Sleep, Wake, Yield, Turn, Meet, Pull, Begin, Move, Hold, Put, Finish, Feed, Wish, Done, End, Close, Tick}
 use Rattle.vm_law.specs.declared.journal.EndCause.{EndCause}
@@ -47,12 +48,26 @@ unfolding open_grants
 grants_set seats i t l = sum_by-set (λ (x : Seat). x.left) seats i t empty_seat l
 
 -- another vCPU i
-keeps_cpu : (s : State) (i : ℕ) (cpu : Cpu) → IsSoundState s → IsSoundState (with_cpu s i cpu)
+pub keeps_cpu : (s : State) (i : ℕ) (cpu : Cpu) → IsSoundState s → IsSoundState (with_cpu s i cpu)
 keeps_cpu s i cpu h = record {
   some_cpu = simp length-set h.some_cpu;
   cpus = simp length-set h.cpus;
   seats = simp length-set h.seats;
   pages = h.pages;
+  versions = h.versions;
+  granted = h.granted;
+  limit = h.limit;
+  ran = h.ran;
+  script = h.script;
+}
+
+-- other memory, with as much code
+pub keeps_ram : (s : State) (ram : Memory) → IsSoundState s → ram.code ≡ s.machine.ram.code → IsSoundState (with_ram s ram)
+keeps_ram s ram h same = record {
+  some_cpu = h.some_cpu;
+  cpus = h.cpus;
+  seats = h.seats;
+  pages = h.pages ∙ ap page_count (sym same);
   versions = h.versions;
   granted = h.granted;
   limit = h.limit;

@@ -75,6 +75,10 @@ outcome_of c mem OutOfCode = Some (stopped c mem stop.Fetch)
 abbrev pub outcome : Ctx → Memory → Option Stored → Bool → Option ℕ → Option Stop → Outcome
 outcome c mem stored halted output stop = record { ctx = c; memory = mem; stored = stored; halted = halted; output = output; stop = stop }
 
+-- the run with a vCPU's registers and memory as an outcome has them
+abbrev pub with_outcome : State → ℕ → Outcome → State
+with_outcome s i o = with_ram (with_cpu s i (record (cpu_at s i) { ctx = o.ctx })) o.memory
+
 -- each is below a number
 abbrev pub AreBelow : List ℕ → ℕ → Type 0
 AreBelow xs n = (k : ℕ) → slice_index xs k < n

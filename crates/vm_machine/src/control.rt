@@ -97,15 +97,16 @@ pub(crate) fn done(core: &mut Core, by: u16, k: u16)
 }
 
 #[tactic(auto, unfolding(crate::specs::Control::is_used_up))]
-fn is_used_up(core: &Core) -> bool
+pub(crate) fn is_used_up(core: &Core) -> bool
     ensures { result ≡ spec.is_used_up core.now.state }
 {
     if core.entries >= ENTRY_LIMIT {
         return true;
     }
-    is_waiting(core, order_at(core))
-        && core.executed == core.limit
-        && any_eager(core.machine.cpus.as_slice())
+    if core.executed != core.limit {
+        return false;
+    }
+    is_waiting(core, order_at(core)) && any_eager(core.machine.cpus.as_slice())
 }
 
 #[tactic(auto, unfolding(crate::specs::Control::may_end))]

@@ -10,7 +10,7 @@ ghost use Rattle.vm_machine.specs.Sound.{IsSoundState};
 ghost use Rattle.vm_machine.specs.Table as table_spec;
 
 use crate::booting::boot;
-use crate::control::{is_eager, is_quiet};
+use crate::control::{is_eager, is_quiet, is_used_up};
 use crate::running::{open_grants, run_ahead};
 use crate::start::Start;
 use crate::state::{Core, Cpu, Machine, Why};
@@ -23,7 +23,7 @@ use vm_law::{Ctx, Entry, OutOfMemory, Signed};
 const PAGES_PER_ENTRY: u32 = 6;
 
 /// A run of the machine. Contracts see its state, and for how many entries it has room.
-#[derive(Debug, Drop)]
+#[derive(Drop)]
 pub struct Run {
     core: Core,
 }
@@ -88,7 +88,8 @@ impl Run {
     }
 
     /// Makes the step of an entry where it is lawful for the pass, and says whether it is; else the run stays. A Slice is
-    /// run once, for its test and for its step. There is to be room for an entry.
+    /// run once, for its test and for its step, and a Step's instruction is looked up once. There is to be room for an entry.
+    #[inline(always)]
     #[tactic(auto, unfolding(crate::specs::Table::after))]
     pub fn advance(&mut self, by: u16, entry: &Entry) -> bool
         requires room { 1 ≤ self.old.room }
@@ -165,6 +166,14 @@ impl Run {
         ensures { result ≡ control_spec.is_quiet self.now.state }
     {
         is_quiet(&self.core)
+    }
+
+    /// Whether the run is used up: so many entries stand before, or a wait can't be met, since a vCPU has something to run
+    /// and may not.
+    pub fn used_up(&self) -> bool
+        ensures { result ≡ control_spec.is_used_up self.now.state }
+    {
+        is_used_up(&self.core)
     }
 
     /// Why the run ended; `None` where it hasn't.

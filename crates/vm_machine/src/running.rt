@@ -1,8 +1,10 @@
 //! A vCPU runs: Enter, Slice, Step.
-ghost use Rattle.std.specs.Prelude.{◌≡◌, ◌<◌, ◌≤◌, ◌+◌, ◌^◌, length, slice_index, IsTrue, Some, is_some, IfSome};
+ghost use Rattle.std.specs.Prelude.{◌≡◌, ◌<◌, ◌≤◌, ◌+◌, ◌^◌, ◌&&◌, false, not, length, slice_index, IsTrue, IsSome, Some, is_some, IfSome, if◌then◌else◌};
 ghost use Rattle.vm_machine.specs.State as state;
 ghost use Rattle.vm_machine.specs.Running as spec;
+ghost use Rattle.vm_machine.specs.Stepping as stepping;
 ghost use Rattle.x86_fetch.specs.Slices as slices;
+ghost use Rattle.x86_fetch.specs.Fetching.{is_local_next};
 ghost use Rattle.vm_machine.specs.declared.state.Why.{Why};
 ghost use Rattle.x86_fetch.specs.declared.fetching.Next.{Next};
 ghost use Rattle.vm_machine.specs.Sound.{IsSoundState};
@@ -182,10 +184,14 @@ fn keep_next(core: &mut Core, i: u8)
         .keep_next(&core.machine.cpus.at(i as usize).ctx);
 }
 
-#[tactic(auto, unfolding(crate::specs::Running::may_step, x86_fetch::specs::Slices::stands_local))]
-pub(crate) fn may_step(core: &Core, by: u16, i: u8) -> bool
+/// Whether a vCPU may run a Step, if its next instruction isn't local.
+#[inline(always)]
+#[tactic(auto, unfolding(crate::specs::Running::may_step))]
+fn has_step(core: &Core, by: u16, i: u8) -> bool
     requires { IsSoundState core.now.state }
-    ensures { result ≡ spec.may_step core.now.state by i }
+    ensures may { spec.may_step core.now.state by i ≡ (result && not (is_local_next (spec.next_at core.now.state i))) }
+    ensures cpu { IsTrue result → IsTrue (state.is_cpu core.now.state i) }
+    ensures left { IsTrue result → 1 ≤ (state.seat_at core.now.state i).left }
 {
     if i as usize >= core.machine.cpus.len() {
         return false;
@@ -197,7 +203,19 @@ pub(crate) fn may_step(core: &Core, by: u16, i: u8) -> bool
     if core.ended.is_some() || is_starter(&core.machine.meet, i) {
         return false;
     }
-    !core.machine.ram.stands_local(&cpu.ctx)
+    true
+}
+
+#[tactic(auto, unfolding(crate::specs::Running::may_step, x86_fetch::specs::Slices::stands_local))]
+pub(crate) fn may_step(core: &Core, by: u16, i: u8) -> bool
+    requires { IsSoundState core.now.state }
+    ensures { result ≡ spec.may_step core.now.state by i }
+{
+    has_step(core, by, i)
+        && !core
+            .machine
+            .ram
+            .stands_local(&core.machine.cpus.at(i as usize).ctx)
 }
 
 /// A Stop ends the run and changes nothing else.
@@ -256,16 +274,16 @@ fn note(core: &mut Core, done: &Performed)
     }
 }
 
-/// Notes what an instruction did, whose memory stands already.
+/// Notes what an instruction did, whose registers and memory stand already.
 #[tactic(auto, unfolding(crate::specs::Running::settled_by, crate::specs::Running::spent))]
-fn settle(core: &mut Core, i: u8, ctx: &Ctx, done: &Performed)
+fn settle(core: &mut Core, i: u8, done: &Performed)
     requires sound { IsSoundState core.old.state }
     requires cpu { IsTrue (state.is_cpu core.old.state i) }
     requires left { 1 ≤ (state.seat_at core.old.state i).left }
     requires room { 1 ≤ core.old.room }
     requires stored { spec.IsInside core.old.state.machine.ram done.now.stored }
     ensures state { core.new.state ≡ spec.settled_by core.old.state i
-        (spec.outcome ctx.now core.old.state.machine.ram done.now.stored done.now.halted done.now.output done.now.stop) done.now.stop }
+        (spec.outcome (state.cpu_at core.old.state i).ctx core.old.state.machine.ram done.now.stored done.now.halted done.now.output done.now.stop) done.now.stop }
     ensures ram { core.new.state.machine.ram ≡ core.old.state.machine.ram }
     ensures room { core.old.room ≤ core.new.room + 1 }
     ensures spare { core.new.spare ≡ core.old.spare }
@@ -273,9 +291,7 @@ fn settle(core: &mut Core, i: u8, ctx: &Ctx, done: &Performed)
     match done.stop {
         Some(why) => stop(core, i, why),
         None => {
-            let cpu = core.machine.cpus.at_mut(i as usize);
-            cpu.ctx = *ctx;
-            cpu.halted = done.halted;
+            core.machine.cpus.at_mut(i as usize).halted = done.halted;
             note(core, done);
             spend(core, i, 1);
         }
@@ -288,6 +304,26 @@ fn ctx_of(core: &Core, i: u8) -> Ctx
     ensures { result ≡ (state.cpu_at core.now.state i).ctx }
 {
     core.machine.cpus.at(i as usize).ctx
+}
+
+/// Runs an instruction on a vCPU's registers and on memory, where they stand.
+fn perform_at(core: &mut Core, i: u8, insn: &Insn, len: u8) -> Performed
+    requires cpu { IsTrue (state.is_cpu core.old.state i) }
+    requires spare { 4 ≤ core.old.spare }
+    ensures state { core.new.state ≡ spec.with_outcome core.old.state i (stepping.performed (state.cpu_at core.old.state i).ctx insn.now len core.old.state.machine.ram) }
+    ensures stored { result.stored ≡ (stepping.performed (state.cpu_at core.old.state i).ctx insn.now len core.old.state.machine.ram).stored }
+    ensures halted { result.halted ≡ (stepping.performed (state.cpu_at core.old.state i).ctx insn.now len core.old.state.machine.ram).halted }
+    ensures output { result.output ≡ (stepping.performed (state.cpu_at core.old.state i).ctx insn.now len core.old.state.machine.ram).output }
+    ensures stop { result.stop ≡ (stepping.performed (state.cpu_at core.old.state i).ctx insn.now len core.old.state.machine.ram).stop }
+    ensures still { IsSome result.stop → (stepping.performed (state.cpu_at core.old.state i).ctx insn.now len core.old.state.machine.ram).ctx ≡ (state.cpu_at core.old.state i).ctx }
+    ensures kept { IsSome result.stop → (stepping.performed (state.cpu_at core.old.state i).ctx insn.now len core.old.state.machine.ram).memory ≡ core.old.state.machine.ram }
+    ensures inside { spec.IsInside core.new.state.machine.ram result.stored }
+    ensures code { core.new.state.machine.ram.code ≡ core.old.state.machine.ram.code }
+    ensures room { core.new.room ≡ core.old.room }
+    ensures spare { core.old.spare ≤ core.new.spare + 4 }
+{
+    let cpu = core.machine.cpus.at_mut(i as usize);
+    perform(&mut cpu.ctx, &mut core.machine.ram, insn, len)
 }
 
 /// One instruction that isn't local.
@@ -303,9 +339,28 @@ fn share(core: &mut Core, i: u8, insn: &Insn, len: u8)
     ensures room { core.old.room ≤ core.new.room + 1 }
     ensures spare { core.old.spare ≤ core.new.spare + 4 }
 {
-    let mut ctx = ctx_of(core, i);
-    let done = perform(&mut ctx, &mut core.machine.ram, insn, len);
-    settle(core, i, &ctx, &done);
+    let done = perform_at(core, i, insn, len);
+    settle(core, i, &done);
+}
+
+/// The same of bytes that no instruction spells.
+fn undefined_at(core: &mut Core, i: u8) -> Performed
+    requires cpu { IsTrue (state.is_cpu core.old.state i) }
+    requires spare { 2 ≤ core.old.spare }
+    ensures state { core.new.state ≡ spec.with_outcome core.old.state i (stepping.undefined (state.cpu_at core.old.state i).ctx core.old.state.machine.ram) }
+    ensures stored { result.stored ≡ (stepping.undefined (state.cpu_at core.old.state i).ctx core.old.state.machine.ram).stored }
+    ensures halted { result.halted ≡ (stepping.undefined (state.cpu_at core.old.state i).ctx core.old.state.machine.ram).halted }
+    ensures output { result.output ≡ (stepping.undefined (state.cpu_at core.old.state i).ctx core.old.state.machine.ram).output }
+    ensures stop { result.stop ≡ (stepping.undefined (state.cpu_at core.old.state i).ctx core.old.state.machine.ram).stop }
+    ensures still { IsSome result.stop → (stepping.undefined (state.cpu_at core.old.state i).ctx core.old.state.machine.ram).ctx ≡ (state.cpu_at core.old.state i).ctx }
+    ensures kept { IsSome result.stop → (stepping.undefined (state.cpu_at core.old.state i).ctx core.old.state.machine.ram).memory ≡ core.old.state.machine.ram }
+    ensures inside { spec.IsInside core.new.state.machine.ram result.stored }
+    ensures code { core.new.state.machine.ram.code ≡ core.old.state.machine.ram.code }
+    ensures room { core.new.room ≡ core.old.room }
+    ensures spare { core.old.spare ≤ core.new.spare + 2 }
+{
+    let cpu = core.machine.cpus.at_mut(i as usize);
+    undefined(&mut cpu.ctx, &mut core.machine.ram)
 }
 
 /// Bytes that no instruction spells.
@@ -321,12 +376,44 @@ fn refuse(core: &mut Core, i: u8)
     ensures room { core.old.room ≤ core.new.room + 1 }
     ensures spare { core.old.spare ≤ core.new.spare + 2 }
 {
-    let mut ctx = ctx_of(core, i);
-    let done = undefined(&mut ctx, &mut core.machine.ram);
-    settle(core, i, &ctx, &done);
+    let done = undefined_at(core, i);
+    settle(core, i, &done);
 }
 
-#[tactic(auto, unfolding(crate::specs::Running::may_step, crate::specs::Running::after_step, crate::specs::Running::outcome_of, crate::specs::Running::settled_by))]
+/// Runs the next instruction of a vCPU where it isn't local, and says whether it isn't. It is looked up once.
+#[tactic(auto, unfolding(crate::specs::Running::after_step, crate::specs::Running::outcome_of, crate::specs::Running::settled_by))]
+fn step_next(core: &mut Core, i: u8) -> bool
+    requires sound { IsSoundState core.old.state }
+    requires cpu { IsTrue (state.is_cpu core.old.state i) }
+    requires left { 1 ≤ (state.seat_at core.old.state i).left }
+    requires room { 1 ≤ core.old.room }
+    requires spare { 6 ≤ core.old.spare }
+    ensures shared { result ≡ not (is_local_next (spec.next_at core.old.state i)) }
+    ensures state { core.new.state ≡ spec.after_step core.old.state i }
+    ensures same { result ≡ false → core.new.state ≡ core.old.state }
+    ensures code { core.new.state.machine.ram.code ≡ core.old.state.machine.ram.code }
+    ensures room { core.old.room ≤ core.new.room + 1 }
+    ensures spare { core.old.spare ≤ core.new.spare + 6 }
+{
+    keep_next(core, i);
+    match next_at(core, i) {
+        Next::Local { .. } => false,
+        Next::Shared { insn, len } => {
+            share(core, i, &insn, len);
+            true
+        }
+        Next::Undefined => {
+            refuse(core, i);
+            true
+        }
+        Next::OutOfCode => {
+            stop(core, i, Stop::Fetch);
+            true
+        }
+    }
+}
+
+#[tactic(auto, unfolding(crate::specs::Running::may_step))]
 pub(crate) fn step(core: &mut Core, by: u16, i: u8)
     requires sound { IsSoundState core.old.state }
     requires may { IsTrue (spec.may_step core.old.state by i) }
@@ -337,11 +424,25 @@ pub(crate) fn step(core: &mut Core, by: u16, i: u8)
     ensures room { core.old.room ≤ core.new.room + 1 }
     ensures spare { core.old.spare ≤ core.new.spare + 6 }
 {
-    keep_next(core, i);
-    match next_at(core, i) {
-        Next::Local { .. } => {}
-        Next::Shared { insn, len } => share(core, i, &insn, len),
-        Next::Undefined => refuse(core, i),
-        Next::OutOfCode => stop(core, i, Stop::Fetch),
+    step_next(core, i);
+}
+
+/// Makes a vCPU's Step where it may, and says whether it may. Its instruction is looked up once.
+pub(crate) fn step_where_allowed(core: &mut Core, by: u16, i: u8) -> bool
+    requires sound { IsSoundState core.old.state }
+    requires room { 1 ≤ core.old.room }
+    requires spare { 6 ≤ core.old.spare }
+    ensures may { result ≡ spec.may_step core.old.state by i }
+    ensures state { core.new.state ≡ (if result then spec.after_step core.old.state i else core.old.state) }
+    ensures code { core.new.state.machine.ram.code ≡ core.old.state.machine.ram.code }
+    ensures room { core.old.room ≤ core.new.room + 1 }
+    ensures spare { core.old.spare ≤ core.new.spare + 6 }
+{
+    if !has_step(core, by, i) {
+        return false;
     }
+    if step_next(core, i) {
+        return true;
+    }
+    false
 }

@@ -3,14 +3,14 @@
 use vm_law::{FlatImage, Plan, Script, Seq};
 
 /// What a machine is made from.
-#[derive(Debug, Drop)]
+#[derive(Drop)]
 pub enum Origin {
     /// A flat image.
     Flat(FlatImage),
 }
 
 /// What a run starts from.
-#[derive(Debug, Drop)]
+#[derive(Drop)]
 pub struct Start {
     pub plan: Plan,
     pub origin: Origin,

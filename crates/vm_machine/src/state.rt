@@ -5,7 +5,7 @@ use vm_law::{CpuSet, Ctx, MeetKind, Order, Owned, Seq, Stop};
 use x86_fetch::CachedRam;
 
 /// A virtual processor.
-#[derive(Debug, Drop)]
+#[derive(Drop)]
 pub struct Cpu {
     /// In which stage it is, and by which pass it is owned.
     pub stage: Owned,
@@ -17,7 +17,7 @@ pub struct Cpu {
 }
 
 /// A rendezvous that is open.
-#[derive(Debug, Drop)]
+#[derive(Drop)]
 pub struct Meeting {
     pub kind: MeetKind,
     /// The pass that opened it.
@@ -29,7 +29,7 @@ pub struct Meeting {
 }
 
 /// The machine as its guest sees it. Contracts see its state, and for how many pages of memory it has room.
-#[derive(Debug, Drop)]
+#[derive(Drop)]
 pub struct Machine {
     /// The vCPUs by their numbers, at most 16.
     pub cpus: Seq<Cpu>,
@@ -55,7 +55,7 @@ impl Model for Machine {
 }
 
 /// What a run keeps of a vCPU beside the machine. A stay is from an Enter to the next Exit.
-#[derive(Clone, Copy, Debug, PartialEq, Eq)]
+#[derive(Clone, Copy, PartialEq, Eq)]
 pub struct Seat {
     /// How many instructions of its grant are left, 0 where it isn't running.
     pub left: u16,
@@ -66,7 +66,7 @@ pub struct Seat {
 }
 
 /// Why a run ended.
-#[derive(Clone, Copy, Debug, PartialEq, Eq)]
+#[derive(Clone, Copy, PartialEq, Eq)]
 pub enum Why {
     /// Every order of the script is done.
     Finished,
@@ -79,7 +79,7 @@ pub enum Why {
 }
 
 /// A run. Contracts see its state, and for how many console bytes and how many pages of memory it has room.
-#[derive(Debug, Drop)]
+#[derive(Drop)]
 pub(crate) struct Core {
     pub(crate) machine: Machine,
     /// For each vCPU its seat.

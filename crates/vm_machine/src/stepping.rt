@@ -83,6 +83,7 @@ fn trap(ctx: &mut Ctx, ram: &mut CachedRam, rip: u64, vector: u8, error: Option<
     ensures output { result.output ≡ (spec.trapped ctx.old rip ram.old.memory vector error).output }
     ensures stop { result.stop ≡ (spec.trapped ctx.old rip ram.old.memory vector error).stop }
     ensures kept { IsSome result.stop → ram.new.memory ≡ ram.old.memory }
+    ensures still { IsSome result.stop → ctx.new ≡ ctx.old }
     ensures inside { IsInside ram.new.memory result.stored }
     ensures size { KeepsSize ram.old.memory ram.new.memory }
     ensures spare { ram.old.spare ≤ ram.new.spare + 2 }
@@ -112,6 +113,7 @@ pub(crate) fn undefined(ctx: &mut Ctx, ram: &mut CachedRam) -> Performed
     ensures output { result.output ≡ (spec.undefined ctx.old ram.old.memory).output }
     ensures stop { result.stop ≡ (spec.undefined ctx.old ram.old.memory).stop }
     ensures kept { IsSome result.stop → ram.new.memory ≡ ram.old.memory }
+    ensures still { IsSome result.stop → ctx.new ≡ ctx.old }
     ensures inside { IsInside ram.new.memory result.stored }
     ensures size { KeepsSize ram.old.memory ram.new.memory }
     ensures spare { ram.old.spare ≤ ram.new.spare + 2 }
@@ -131,6 +133,7 @@ pub(crate) fn perform(ctx: &mut Ctx, ram: &mut CachedRam, insn: &Insn, len: u8) 
     ensures output { result.output ≡ (spec.performed ctx.old insn.now len ram.old.memory).output }
     ensures stop { result.stop ≡ (spec.performed ctx.old insn.now len ram.old.memory).stop }
     ensures kept { IsSome result.stop → ram.new.memory ≡ ram.old.memory }
+    ensures still { IsSome result.stop → ctx.new ≡ ctx.old }
     ensures inside { IsInside ram.new.memory result.stored }
     ensures size { KeepsSize ram.old.memory ram.new.memory }
     ensures spare { ram.old.spare ≤ ram.new.spare + 4 }

@@ -107,6 +107,7 @@ pub(crate) fn put_slice(core: &mut Core, by: u16, cpu: u8, n: u16, ctx: &Ctx)
 }
 
 /// The step of an entry where it is lawful, and whether it is.
+#[inline(always)]
 #[tactic(auto, unfolding(crate::specs::Table::lawful))]
 pub(crate) fn advance(core: &mut Core, by: u16, entry: Entry) -> bool
     requires sound { IsSoundState core.old.state }
@@ -119,14 +120,55 @@ pub(crate) fn advance(core: &mut Core, by: u16, entry: Entry) -> bool
     ensures spare { core.old.spare ≤ core.new.spare + 6 }
     ensures sound { IsSoundState core.new.state }
 {
-    if let Entry::Slice { cpu, n } = entry {
-        return advance_slice(core, by, cpu, n);
+    match entry {
+        Entry::Step { cpu } => advance_step(core, by, cpu),
+        Entry::Slice { cpu, n } => advance_slice(core, by, cpu, n),
+        _ => advance_listed(core, by, entry),
     }
+}
+
+/// The same by the test of the entry, and then its step.
+#[inline(never)]
+#[tactic(auto, unfolding(crate::specs::Table::lawful))]
+fn advance_listed(core: &mut Core, by: u16, entry: Entry) -> bool
+    requires sound { IsSoundState core.old.state }
+    requires room { 1 ≤ core.old.room }
+    requires spare { 6 ≤ core.old.spare }
+    ensures lawful { result ≡ spec.lawful core.old.state by entry }
+    ensures state { core.new.state
+        ≡ (if result then spec.counted (spec.effect core.old.state by entry) else core.old.state) }
+    ensures room { core.old.room ≤ core.new.room + 1 }
+    ensures spare { core.old.spare ≤ core.new.spare + 6 }
+    ensures sound { IsSoundState core.new.state }
+{
     if !may(core, by, entry) {
         return false;
     }
     step(core, by, entry);
     true
+}
+
+/// The same of a Step, whose instruction is looked up once.
+#[tactic(auto, unfolding(crate::specs::Table::lawful, crate::specs::Table::allowed, crate::specs::Table::effect))]
+fn advance_step(core: &mut Core, by: u16, cpu: u8) -> bool
+    requires sound { IsSoundState core.old.state }
+    requires room { 1 ≤ core.old.room }
+    requires spare { 6 ≤ core.old.spare }
+    ensures lawful { result ≡ spec.lawful core.old.state by (Entry.Step cpu) }
+    ensures state { core.new.state
+        ≡ (if result then spec.counted (spec.effect core.old.state by (Entry.Step cpu)) else core.old.state) }
+    ensures room { core.old.room ≤ core.new.room + 1 }
+    ensures spare { core.old.spare ≤ core.new.spare + 6 }
+    ensures sound { IsSoundState core.new.state }
+{
+    if core.closed {
+        return false;
+    }
+    if running::step_where_allowed(core, by, cpu) {
+        count_entry(core);
+        return true;
+    }
+    false
 }
 
 /// The same of a Slice, which is run once.

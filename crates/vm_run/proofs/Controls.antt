@@ -2,7 +2,7 @@
 use Rattle.std.proofs.Common.{◌≡◌, ℕ, zero, suc, ◌<◌, ◌≤◌, Bool, true, false, not, cond, List, length, refl, sym, ap, subst, ◌∙◌, inl, inr, ◌⊎◌, arith, Option, Some, None}
 use Rattle.std.specs.Prelude.{◌&&◌, ◌||◌, ◌==◌, nat_le, is_some, is_none, if◌then◌else◌}
 use Rattle.std.specs.Option.{option_to_list, option_map}
-use Rattle.std.proofs.lemmas.Bool.{cases_lt, cases_Bool}
+use Rattle.std.proofs.lemmas.Bool.{cases_lt, cases_Bool, and_parts}
 use Rattle.std.proofs.lemmas.Bool.Decides.{nat_tests}
 use Rattle.vm_law.specs.declared.context.Ctx.{Ctx}
 use Rattle.vm_law.specs.declared.journal.Entry.{Entry}
@@ -557,3 +557,25 @@ pub two_turns : (a b c : ℕ) → a ≤ 3 → ((b < a) ⊎ (b ≡ 1)) → ((c < 
 two_turns a b c h (inl p) (inl q) = omega arith
 two_turns a b c h (inr p) (inl q) = omega arith
 two_turns a b c h p (inr q) = omega arith
+
+-- control has nothing to choose while the vCPU is awake and no end is due
+control_rests : (s : State) → IsSingle s → s.closed ≡ false → is_none s.ended ≡ true → (cpu_at s 0).halted ≡ false → is_used_up s ≡ false → first_lawful s 0 ≡ None
+control_rests s h going none awake unused =
+    let still : h.one.closed ≡ false = single_going s h going in
+    let on : h.one.ended ≡ None = none_of h.one.ended (sym (ap (λ (t : State). is_none t.ended) h.is) ∙ none) in
+    let up : h.one.halted ≡ false = sym (ap (λ (t : State). (cpu_at t 0).halted) h.is) ∙ awake in
+    let first : h.one.place ≡ 0 = h.fits.first on in
+    let to : s ≡ core_of (record (as_of h.one h.one.stay None false h.one.left) { place = 0 }) = h.is ∙ rw (still, on, up, first) refl in
+    ap (λ (t : State). first_lawful t 0) to
+    ∙ control_going h.one h.one.stay false
+    ∙ ap (λ (b : Bool). cond b (Some (End Budget)) None) (ap (λ (t : State). is_used_up t) (sym to) ∙ unused)
+
+not_true : (b : Bool) → not b ≡ true → b ≡ false
+not_true true h = absurd (cc)
+not_true false h = refl
+
+pub control_awake : (s : State) → IsSingle s → s.closed ≡ false → (is_none s.ended && not (cpu_at s 0).halted && not (is_used_up s)) ≡ true → first_lawful s 0 ≡ None
+control_awake s h going t =
+    let one = and_parts (is_none s.ended && not (cpu_at s 0).halted) (not (is_used_up s)) t in
+    let two = and_parts (is_none s.ended) (not (cpu_at s 0).halted) one.0 in
+    control_rests s h going two.0 (not_true (cpu_at s 0).halted two.1) (not_true (is_used_up s) one.1)

@@ -1,10 +1,11 @@
 //! The actors of a machine with one vCPU: control, and the vCPU's runner. Each adds to the history what it chooses.
-ghost use Rattle.std.specs.Prelude.{◌≡◌, ◌≤◌, ◌<◌, ◌+◌, true, false, [], ◌∷◌, ◌++◌, length, IsTrue, IfOk, IfSome, OnOk, Some, is_some};
+ghost use Rattle.std.specs.Prelude.{◌≡◌, ◌≤◌, ◌<◌, ◌+◌, true, false, [], ◌∷◌, ◌++◌, length, IsTrue, IfOk, IfSome, OnOk, Some, is_some, is_none, not, ◌&&◌, if◌then◌else◌};
 ghost use Rattle.std.specs.List.{find};
 ghost use Rattle.vm_machine.specs.State as state;
 ghost use Rattle.x86_fetch.specs.Slices.{LocalRun};
 ghost use Rattle.vm_machine.specs.Starting.{IsSound, boot};
 ghost use Rattle.vm_machine.specs.Table.{lawful, after};
+ghost use Rattle.vm_machine.specs.Control.{is_used_up};
 ghost use Rattle.vm_machine.specs.History.{after_all};
 ghost use Rattle.vm_machine.specs.Turns as turns;
 ghost use Rattle.vm_machine.specs.Rounds as rounds;
@@ -17,14 +18,14 @@ use vm_law::{Ctx, EndCause, Entry, OutOfMemory, Owned, Signed};
 use vm_machine::{Run, Start};
 
 /// Instructions that the runner ran outside the machine, and the registers after them.
-#[derive(Clone, Copy, Debug)]
+#[derive(Clone, Copy)]
 pub(crate) struct Away {
     pub count: u16,
     pub ctx: Ctx,
 }
 
 /// A run under way, and its history so far.
-#[derive(Debug, Drop)]
+#[derive(Drop)]
 pub(crate) struct Playing {
     pub run: Run,
     pub entries: Vec<Signed>,
@@ -74,6 +75,23 @@ impl Playing {
         self.run.apply(by, &entry);
     }
 
+    /// Adds an entry and makes its step where it is lawful, and says whether it is.
+    fn add_where_lawful(&mut self, by: u16, entry: Entry) -> bool
+        requires room { 1 ≤ room_in self.old }
+        ensures may { result ≡ lawful self.old.run.state by entry }
+        ensures state { self.new.run.state
+            ≡ (if result then after self.old.run.state (record { by = by; entry = entry }) else self.old.run.state) }
+        ensures history { self.new.entries.items
+            ≡ (if result then self.old.entries.items ++ (record { by = by; entry = entry }) ∷ [] else self.old.entries.items) }
+        ensures room { room_in self.old ≤ room_in self.new + 1 }
+    {
+        if self.run.advance(by, &entry) {
+            self.entries.push_reserved(Signed { by, entry });
+            return true;
+        }
+        false
+    }
+
     /// Adds the first entry of the pass's list that is lawful, where there is one.
     fn choose(&mut self, by: u16, list: &[Entry])
         requires list { list.now ≡ turns.list_of self.old.run.state by }
@@ -85,6 +103,30 @@ impl Playing {
         if let Some(entry) = first_lawful(&self.run, by, list) {
             self.add(by, entry);
         }
+    }
+
+    /// Adds the first entry of a list that is lawful, where there is one. The first of the pass's own list is no other.
+    fn choose_among(&mut self, by: u16, list: &[Entry])
+        requires list { find (λ e. lawful self.old.run.state by e) list.now ≡ turns.first_lawful self.old.run.state by }
+        requires room { 1 ≤ room_in self.old }
+        ensures state { self.new.run.state ≡ after_all self.old.run.state (rounds.chosen self.old.run.state by) }
+        ensures history { self.new.entries.items ≡ self.old.entries.items ++ rounds.chosen self.old.run.state by }
+        ensures room { room_in self.old ≤ room_in self.new + 1 }
+    {
+        if let Some(entry) = first_lawful(&self.run, by, list) {
+            self.add(by, entry);
+        }
+    }
+
+    /// Adds a Step where it is lawful. No other entry of the runner's list is.
+    fn choose_step(&mut self)
+        requires only { turns.first_lawful self.old.run.state 1 ≡ find (λ e. lawful self.old.run.state 1 e) (Entry.Step 0 ∷ []) }
+        requires room { 1 ≤ room_in self.old }
+        ensures state { self.new.run.state ≡ after_all self.old.run.state (rounds.chosen self.old.run.state 1) }
+        ensures history { self.new.entries.items ≡ self.old.entries.items ++ rounds.chosen self.old.run.state 1 }
+        ensures room { room_in self.old ≤ room_in self.new + 1 }
+    {
+        self.add_where_lawful(1, Entry::Step { cpu: 0 });
     }
 
     /// Control's turn.
@@ -99,6 +141,43 @@ impl Playing {
         ensures machine { self.new.run.state.machine ≡ self.old.run.state.machine }
         ensures seats { self.new.run.state.seats ≡ self.old.run.state.seats }
         ensures continues { Continues self.old self.new }
+    {
+        self.control_choice();
+    }
+
+    /// What control chooses: nothing while the vCPU is awake and no end is due, and else by its list.
+    fn control_choice(&mut self)
+        requires single { IsSingle self.old.run.state }
+        requires going { self.old.run.state.closed ≡ false }
+        requires room { 1 ≤ room_in self.old }
+        ensures state { self.new.run.state ≡ by_choice self.old.run.state 0 }
+        ensures history { self.new.entries.items ≡ self.old.entries.items ++ rounds.chosen self.old.run.state 0 }
+        ensures room { room_in self.old ≤ room_in self.new + 1 }
+    {
+        if self.is_under_way() {
+            return;
+        }
+        self.listed_control();
+    }
+
+    /// Whether the vCPU is awake and no end is due, so that control has nothing to choose.
+    #[inline(always)]
+    fn is_under_way(&self) -> bool
+        requires { length self.now.run.state.machine.cpus ≡ 1 }
+        ensures { result ≡ (is_none self.now.run.state.ended && not (state.cpu_at self.now.run.state 0).halted
+            && not (is_used_up self.now.run.state)) }
+    {
+        self.run.ended().is_none() && !self.run.cpu(0).halted && !self.run.used_up()
+    }
+
+    /// What control chooses, by its whole list.
+    #[inline(never)]
+    fn listed_control(&mut self)
+        requires one { length self.old.run.state.machine.cpus ≡ 1 }
+        requires room { 1 ≤ room_in self.old }
+        ensures state { self.new.run.state ≡ by_choice self.old.run.state 0 }
+        ensures history { self.new.entries.items ≡ self.old.entries.items ++ rounds.chosen self.old.run.state 0 }
+        ensures room { room_in self.old ≤ room_in self.new + 1 }
     {
         let list = [
             Entry::Turn { cpu: 0 },
@@ -134,6 +213,38 @@ impl Playing {
 
     /// What the runner chooses in its turn.
     fn runner_choice(&mut self)
+        requires one { length self.old.run.state.machine.cpus ≡ 1 }
+        requires room { 1 ≤ room_in self.old }
+        ensures state { self.new.run.state ≡ after_all self.old.run.state (rounds.chosen self.old.run.state 1) }
+        ensures history { self.new.entries.items ≡ self.old.entries.items ++ rounds.chosen self.old.run.state 1 }
+        ensures room { room_in self.old ≤ room_in self.new + 1 }
+    {
+        if self.run.cpu(0).stage == Owned::Running(1) {
+            self.running_choice();
+        } else {
+            self.resting_choice();
+        }
+    }
+
+    /// The same where its vCPU runs: to freeze it where that is due, or a Step. Nothing else can be lawful.
+    fn running_choice(&mut self)
+        requires one { length self.old.run.state.machine.cpus ≡ 1 }
+        requires runs { (state.cpu_at self.old.run.state 0).stage ≡ Owned.Running 1 }
+        requires room { 1 ≤ room_in self.old }
+        ensures state { self.new.run.state ≡ after_all self.old.run.state (rounds.chosen self.old.run.state 1) }
+        ensures history { self.new.entries.items ≡ self.old.entries.items ++ rounds.chosen self.old.run.state 1 }
+        ensures room { room_in self.old ≤ room_in self.new + 1 }
+    {
+        if self.is_exit_due() {
+            self.choose_among(1, &[Entry::Exit { cpu: 0 }, Entry::Step { cpu: 0 }]);
+        } else {
+            self.choose_step();
+        }
+    }
+
+    /// The same by the whole list.
+    #[inline(never)]
+    fn resting_choice(&mut self)
         requires one { length self.old.run.state.machine.cpus ≡ 1 }
         requires room { 1 ≤ room_in self.old }
         ensures state { self.new.run.state ≡ after_all self.old.run.state (rounds.chosen self.old.run.state 1) }
@@ -193,23 +304,43 @@ impl Playing {
 
     /// The runner's work outside: as many local instructions as its grant allows. Run and history stay.
     #[tactic(auto, unfolding(vm_machine::specs::Rounds::run_outside))]
-    fn go_out(&mut self) -> Away
+    fn go_out(&mut self, away: &mut Away)
         requires { length self.old.run.state.machine.cpus ≡ 1 }
         ensures same { self.new ≡ self.old }
-        ensures count { result.count ≡ rounds.run_outside self.old.run.state 0 }
+        ensures count { away.new.count ≡ rounds.run_outside self.old.run.state 0 }
         ensures ran { LocalRun (state.code_of self.old.run.state.machine)
-            (state.cpu_at self.old.run.state 0).ctx result.count result.ctx }
+            (state.cpu_at self.old.run.state 0).ctx away.new.count away.new.ctx }
     {
         let cpu = self.run.cpu(0);
-        let mut ctx = cpu.ctx;
+        away.ctx = cpu.ctx;
         let leases = cpu.stage == Owned::Running(1) && !self.is_exit_due();
         let most = if leases { self.run.left(0) } else { 0 };
-        let count = self.run.run_ahead(&mut ctx, most);
-        Away { count, ctx }
+        away.count = self.run.run_ahead(&mut away.ctx, most);
     }
 
     /// The runner's turn, and then its work outside: what it ran outside before comes back, and it adds what it chooses.
-    pub(crate) fn runner_turn(&mut self, away: Away) -> Away
+    pub(crate) fn take_turn(&mut self, away: &mut Away)
+        requires single { IsSingle self.old.run.state }
+        requires going { self.old.run.state.closed ≡ false }
+        requires away { IsAway self.old.run.state away.old }
+        requires room { 2 ≤ room_in self.old }
+        ensures state { self.new.run.state ≡ by_return self.old.run.state away.old.count }
+        ensures history { self.new.entries.items ≡ self.old.entries.items ++ returned self.old.run.state away.old.count }
+        ensures room { room_in self.old ≤ room_in self.new + 2 }
+        ensures single { IsSingle self.new.run.state }
+        ensures going { self.new.run.state.closed ≡ false }
+        ensures count { away.new.count ≡ rounds.run_outside self.new.run.state 0 }
+        ensures away { IsAway self.new.run.state away.new }
+        ensures continues { Continues self.old self.new }
+    {
+        self.bring_back(away);
+        self.runner_choice();
+        self.go_out(away);
+    }
+
+    /// The same from what is outside to what is outside then.
+    #[inline(never)]
+    fn runner_turn(&mut self, away: Away) -> Away
         requires single { IsSingle self.old.run.state }
         requires going { self.old.run.state.closed ≡ false }
         requires away { IsAway self.old.run.state away }
@@ -223,9 +354,9 @@ impl Playing {
         ensures away { IsAway self.new.run.state result }
         ensures continues { Continues self.old self.new }
     {
-        self.bring_back(&away);
-        self.runner_choice();
-        self.go_out()
+        let mut out = away;
+        self.take_turn(&mut out);
+        out
     }
 
     /// Control ends the run by the failure outside, if it hasn't ended yet.

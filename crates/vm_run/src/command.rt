@@ -8,7 +8,7 @@ use thiserror::Error;
 use vm_law::{OutOfMemory, Text};
 
 /// A command of vmrun.
-#[derive(Debug, Drop)]
+#[derive(Drop)]
 pub enum Command {
     /// Runs the guest of an image file on one thread, and writes the run's journal to a file if one is named.
     Solo { file: Text, journal: Option<Text> },

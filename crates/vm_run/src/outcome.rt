@@ -4,7 +4,7 @@ use vm_law::Journal;
 use vm_machine::{Run, Start};
 
 /// A run that a command made or replayed.
-#[derive(Debug, Drop)]
+#[derive(Drop)]
 pub struct Kept {
     /// What it started from.
     pub start: Start,
@@ -15,7 +15,7 @@ pub struct Kept {
 }
 
 /// How a command ended.
-#[derive(Debug, Drop)]
+#[derive(Drop)]
 pub struct Outcome {
     /// The exit status.
     ///

@@ -36,7 +36,7 @@ pub(crate) enum PlayFault {
 }
 
 /// What a run came to: its history, the run after it, and whether the console took all that the guest sent.
-#[derive(Debug, Drop)]
+#[derive(Drop)]
 pub(crate) struct Played {
     pub journal: Journal,
     pub run: Run,
@@ -106,7 +106,7 @@ fn run_rounds<S: Sink>(
         if playing.run.closed() {
             return Ok(());
         }
-        away = playing.runner_turn(away);
+        playing.take_turn(&mut away);
     }
 }
 

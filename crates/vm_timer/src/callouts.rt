@@ -10,7 +10,7 @@ const TIMERS: usize = 16;
 
 /// The timers of 16 vCPUs. Contracts see what is left of each: a list of 16 numbers below 2^40, 0 where the timer is
 /// disarmed. Counts are of executed instructions.
-#[derive(Debug, Drop)]
+#[derive(Drop)]
 pub struct Callouts {
     left: [u64; TIMERS],
 }

@@ -4,7 +4,7 @@ ghost use Rattle.std.specs.List.{insert};
 use std::marker::Model;
 
 /// The vCPUs whose timers fired, in order. Contracts see a list of at most 16 numbers.
-#[derive(Debug, Drop)]
+#[derive(Drop)]
 pub struct Fired {
     cpus: [u8; 16],
     len: usize,

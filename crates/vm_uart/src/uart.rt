@@ -34,7 +34,7 @@ const MSR_READY: u8 = 0xB0;
 
 /// A 16550. Contracts see it as the bytes that wait, its registers, and whether the interrupt of the empty
 /// transmitter is pending.
-#[derive(Debug, Drop)]
+#[derive(Drop)]
 pub struct Uart {
     pub(crate) received: ArrayVec<u8, 16>,
     pub(crate) ier: u8,

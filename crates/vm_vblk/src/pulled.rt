@@ -9,7 +9,7 @@ pub enum WindowEffect {
 }
 
 /// What became of the chain that stood next.
-#[derive(Debug, PartialEq, Drop)]
+#[derive(PartialEq, Drop)]
 pub enum Pulled {
     /// It is a request, which is to be carried out and then finished.
     Request(Request),

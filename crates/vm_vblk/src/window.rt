@@ -40,7 +40,7 @@ const SETTABLE_BEFORE: u32 = 0xB7;
 const CONFIG_CHANGE: u8 = 2;
 
 /// The window of a block device. Contracts see it as its state, register by register.
-#[derive(Debug, Drop)]
+#[derive(Drop)]
 pub struct Window {
     pub(crate) state: WindowState,
 }

@@ -18,7 +18,7 @@ const WRITE: u16 = 2;
 const INDIRECT: u16 = 4;
 
 /// What stands next on the available ring.
-#[derive(Debug, PartialEq, Drop)]
+#[derive(PartialEq, Drop)]
 pub enum Chain {
     /// Nothing: the driver made no more chains available than were taken.
     None,

@@ -4,7 +4,7 @@ ghost use Rattle.vq_ring.specs.Ring as spec;
 /// Where the three tables of a split virtqueue lie in guest memory, by their addresses.
 ///
 /// Source: OASIS virtio 1.2, section 2.7.
-#[derive(Clone, Copy, Debug, PartialEq, Eq)]
+#[derive(Clone, Copy, PartialEq, Eq)]
 pub struct Ring {
     /// How many descriptors the table has, and how many entries either ring.
     pub size: u16,

@@ -9,7 +9,7 @@ use crate::operand::{mask_of, size_of, truncated};
 use vm_law::Width;
 
 // The sum has another sign than both numbers.
-#[inline(always)]
+#[inline]
 fn sum_overflows(width: Width, a: u64, b: u64, carry: bool, sum: u64) -> bool
     requires a_fits { a < span width }
     requires b_fits { b < span width }
@@ -20,7 +20,7 @@ fn sum_overflows(width: Width, a: u64, b: u64, carry: bool, sum: u64) -> bool
 }
 
 // What the low four bits carry is seen in the fifth, which is otherwise that of one number or the other.
-#[inline(always)]
+#[inline]
 fn sum_carries_digit(width: Width, a: u64, b: u64, carry: bool, sum: u64) -> bool
     requires { sum ≡ sum_of (span width) a b (bit carry) }
     ensures { result ≡ nat_le 16 (a % 16 + b % 16 + bit carry) }
@@ -49,7 +49,7 @@ fn added(width: Width, a: u64, b: u64, carry: bool) -> (u64, Flags)
 }
 
 // The numbers have different signs, and the difference hasn't the first one's.
-#[inline(always)]
+#[inline]
 fn difference_overflows(width: Width, a: u64, b: u64, borrow: bool, difference: u64) -> bool
     requires a_fits { a < span width }
     requires b_fits { b < span width }
@@ -60,7 +60,7 @@ fn difference_overflows(width: Width, a: u64, b: u64, borrow: bool, difference: 
 }
 
 // What the low four bits borrow is seen in the fifth, as in a sum.
-#[inline(always)]
+#[inline]
 fn difference_borrows_digit(width: Width, a: u64, b: u64, borrow: bool, difference: u64) -> bool
     requires b_fits { b < span width }
     requires is_difference { difference ≡ difference_of (span width) a b (bit borrow) }
@@ -93,7 +93,7 @@ fn subtracted(width: Width, a: u64, b: u64, borrow: bool) -> (u64, Flags)
 }
 
 // A bitwise result with its flags.
-#[inline(always)]
+#[inline]
 fn bitwise(width: Width, word: u64) -> (u64, Flags)
     requires { word < span width }
     ensures word { result.0 ≡ word }
@@ -103,7 +103,7 @@ fn bitwise(width: Width, word: u64) -> (u64, Flags)
 }
 
 // The same answer with another carry flag.
-#[inline(always)]
+#[inline]
 fn keeping_carry(carry: bool, answer: (u64, Flags)) -> (u64, Flags)
     ensures word { result.0 ≡ answer.0 }
     ensures flags { result.1 ≡ record answer.1 { cf = carry } }
@@ -118,7 +118,7 @@ fn keeping_carry(carry: bool, answer: (u64, Flags)) -> (u64, Flags)
 }
 
 // An answer with its flags written into RFLAGS.
-#[inline(always)]
+#[inline]
 fn finished(rflags: u64, answer: (u64, Flags)) -> (u64, u64)
     ensures word { result.0 ≡ answer.0 }
     ensures flags { result.1 ≡ with_flags rflags answer.1 }
@@ -140,18 +140,23 @@ pub fn alu(op: AluOp, width: Width, a: u64, b: u64, flags: u64) -> (u64, u64)
     ensures fits { result.0 < span width }
     ensures flags { result.1 ≡ alu_flags op (span width) a b flags }
 {
-    let carry = is_set(flags, CF);
     match op {
         AluOp::Add => finished(flags, added(width, a, b, false)),
-        AluOp::Adc => finished(flags, added(width, a, b, carry)),
+        AluOp::Adc => finished(flags, added(width, a, b, is_set(flags, CF))),
         AluOp::Sub | AluOp::Cmp => finished(flags, subtracted(width, a, b, false)),
-        AluOp::Sbb => finished(flags, subtracted(width, a, b, carry)),
+        AluOp::Sbb => finished(flags, subtracted(width, a, b, is_set(flags, CF))),
         AluOp::And | AluOp::Test => finished(flags, bitwise(width, a & b)),
         AluOp::Or => finished(flags, bitwise(width, a | b)),
         AluOp::Xor => finished(flags, bitwise(width, a ^ b)),
         AluOp::Not => (mask_of(width) - a, flags),
         AluOp::Neg => finished(flags, subtracted(width, 0, a, false)),
-        AluOp::Inc => finished(flags, keeping_carry(carry, added(width, a, 1, false))),
-        AluOp::Dec => finished(flags, keeping_carry(carry, subtracted(width, a, 1, false))),
+        AluOp::Inc => finished(
+            flags,
+            keeping_carry(is_set(flags, CF), added(width, a, 1, false)),
+        ),
+        AluOp::Dec => finished(
+            flags,
+            keeping_carry(is_set(flags, CF), subtracted(width, a, 1, false)),
+        ),
     }
 }

@@ -6,7 +6,7 @@ use crate::operand::is_negative;
 use vm_law::Width;
 
 /// The six status flags. Source: Intel SDM volume 1, section 3.4.3.1.
-#[derive(Clone, Copy, Debug, PartialEq, Eq)]
+#[derive(Clone, Copy, PartialEq, Eq)]
 pub struct Flags {
     /// Carry.
     pub cf: bool,
@@ -86,7 +86,7 @@ pub(crate) fn with_carry_overflow(rflags: u64, cf: bool, of: bool) -> u64
     with_bit(with_bit(rflags, CF, cf), OF, of)
 }
 
-#[inline(always)]
+#[inline]
 fn is_parity_even(result_word: u64) -> bool
     ensures { result ≡ is_parity_even result_word }
 {
@@ -94,7 +94,7 @@ fn is_parity_even(result_word: u64) -> bool
 }
 
 /// ZF, SF and PF by a result; the other three are clear.
-#[inline(always)]
+#[inline]
 #[tactic(auto, unfolding(crate::specs::Flags::of_result))]
 pub(crate) fn of_result(width: Width, word: u64) -> Flags
     requires { word < span width }

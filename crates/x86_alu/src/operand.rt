@@ -30,7 +30,7 @@ pub(crate) fn mask_of(width: Width) -> u64
 }
 
 /// The low bits of a number, as many as an operand has.
-#[inline(always)]
+#[inline]
 pub(crate) fn truncated(width: Width, number: u128) -> u64
     ensures { result ≡ number % span width }
 {
@@ -38,7 +38,7 @@ pub(crate) fn truncated(width: Width, number: u128) -> u64
 }
 
 /// The top bit.
-#[inline(always)]
+#[inline]
 pub(crate) fn is_negative(width: Width, a: u64) -> bool
     requires { a < span width }
     ensures { result ≡ is_negative (span width) a }

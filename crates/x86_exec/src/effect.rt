@@ -7,7 +7,7 @@ use vm_law::{Stop, Width};
 /// What an instruction asks of the machine around its vCPU.
 ///
 /// Source: Intel SDM volume 3, section 6.15, and volume 2, IN, OUT, HLT and INT.
-#[derive(Clone, Copy, Debug, PartialEq, Eq)]
+#[derive(Clone, Copy, PartialEq, Eq)]
 pub enum Effect {
     /// Nothing: it is done.
     Done,
@@ -28,14 +28,14 @@ pub enum Effect {
 }
 
 /// The bytes of memory that an instruction stored: `len` of them, 1 to 8, from an address on.
-#[derive(Clone, Copy, Debug, PartialEq, Eq)]
+#[derive(Clone, Copy, PartialEq, Eq)]
 pub struct Stored {
     pub at: u64,
     pub len: u8,
 }
 
 /// What an instruction asks, and what it stored, if anything.
-#[derive(Clone, Copy, Debug, PartialEq, Eq)]
+#[derive(Clone, Copy, PartialEq, Eq)]
 pub struct Performed {
     pub effect: Effect,
     pub stored: Option<Stored>,

@@ -16,7 +16,7 @@ use vm_law::{Bytes, Ctx, FlatImage, OutOfMemory};
 /// The memory of a guest, with a table of the instructions that were decoded in its code.
 ///
 /// Contracts see what they see of a [`GuestRam`]; each instruction that is kept is what the code decodes as at its address.
-#[derive(Debug, Drop)]
+#[derive(Drop)]
 pub struct CachedRam {
     ram: GuestRam,
     table: Table,

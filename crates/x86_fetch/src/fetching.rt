@@ -11,7 +11,7 @@ use x86_decode::{DecodeFault, decode};
 use x86_op::is_local;
 
 /// What stands at RIP.
-#[derive(Clone, Copy, Debug, PartialEq, Eq)]
+#[derive(Clone, Copy, PartialEq, Eq)]
 pub enum Next {
     /// An instruction of `len` bytes that touches the vCPU's own registers alone, and can be done.
     Local { insn: Insn, len: u8 },

@@ -46,6 +46,7 @@ fn run_next<C: Code>(code: &C, table: &Table, ctx: &mut Ctx) -> bool
 }
 
 /// Runs the next instruction where it is local, and says whether it is. It is kept in the table.
+#[inline(always)]
 #[tactic(auto, unfolding(crate::specs::Fetching::next_of, crate::specs::Slices::stepped, crate::specs::Slices::stands_local))]
 pub fn step_local<C: Code>(code: &C, table: &mut Table, ctx: &mut Ctx) -> bool
     requires { AreKept (C.bytes code.now) table.old }
@@ -61,11 +62,20 @@ pub fn step_local<C: Code>(code: &C, table: &mut Table, ctx: &mut Ctx) -> bool
                 false
             }
         }
-        None => {
-            keep_at(code, table, ctx.rip);
-            run_next(code, table, ctx)
-        }
+        None => step_anew(code, table, ctx),
     }
+}
+
+/// The same where the instruction isn't kept yet.
+#[inline(never)]
+fn step_anew<C: Code>(code: &C, table: &mut Table, ctx: &mut Ctx) -> bool
+    requires { AreKept (C.bytes code.now) table.old }
+    ensures kept { AreKept (C.bytes code.now) table.new }
+    ensures local { result ≡ spec.stands_local (C.bytes code.now) ctx.old }
+    ensures ctx { ctx.new ≡ spec.stepped (C.bytes code.now) ctx.old }
+{
+    keep_at(code, table, ctx.rip);
+    run_next(code, table, ctx)
 }
 
 /// Whether the next instruction is local.

@@ -14,7 +14,7 @@ use x86_op::{faults, is_local};
 const PLACES: usize = 4096;
 
 /// An instruction that stands in the code.
-#[derive(Clone, Copy, Debug)]
+#[derive(Clone, Copy)]
 pub struct Found {
     pub insn: Insn,
     /// How many bytes spell it.
@@ -41,7 +41,7 @@ impl Found {
 }
 
 /// A place of a table that is filled.
-#[derive(Clone, Copy, Debug)]
+#[derive(Clone, Copy)]
 pub struct Place {
     /// The address of the instruction.
     pub at: u64,
@@ -52,7 +52,7 @@ pub struct Place {
 ///
 /// For which code it is right is for its owner to say: [`Table::keep`] leaves it right for each code for which it was right
 /// and in which the instruction stands.
-#[derive(Debug, Drop)]
+#[derive(Drop)]
 pub struct Table {
     places: Vec<Option<Place>>,
 }

@@ -22,7 +22,7 @@ pub enum Way {
 }
 
 /// An access: the bytes at `at` plus 0 to `len` minus 1, modulo 2^64.
-#[derive(Clone, Copy, Debug, PartialEq, Eq)]
+#[derive(Clone, Copy, PartialEq, Eq)]
 pub struct Access {
     pub way: Way,
     pub at: u64,

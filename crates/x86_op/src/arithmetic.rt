@@ -7,29 +7,28 @@ ghost use Rattle.x86_alu.specs.Arithmetic.{alu_result, alu_flags};
 ghost use Rattle.x86_op.specs.Operand as operand;
 ghost use Rattle.x86_op.specs.Arithmetic as spec;
 
-use crate::operand::{immediate, set_pair, set_value, source_at, upper_half, value_at};
+use crate::operand::{
+    immediate, merged, quick_source_at, register, set_pair, set_register, set_value, source_at,
+    truncated, upper_half, value_at,
+};
 use vm_law::{ArithmeticOp, Ctx, Loc, Src, UnaryOp, Width};
 use x86_alu::{AluOp, alu, div, mul};
 
-/// The result of ADD to CMP, and RFLAGS after it. Each operation has code of its own.
+/// The operation that gives the result and the flags.
 #[inline(always)]
 #[tactic(auto, unfolding(crate::specs::Arithmetic::alu_of))]
-fn alu_by(op: ArithmeticOp, width: Width, a: u64, b: u64, flags: u64) -> (u64, u64)
-    requires a_fits { a < span width }
-    requires b_fits { b < span width }
-    ensures word { result.0 ≡ alu_result (spec.alu_of op) (span width) a b (carry_of flags) }
-    ensures fits { result.0 < span width }
-    ensures flags { result.1 ≡ alu_flags (spec.alu_of op) (span width) a b flags }
+fn alu_of(op: ArithmeticOp) -> AluOp
+    ensures { result ≡ spec.alu_of op }
 {
     match op {
-        ArithmeticOp::Add => alu(AluOp::Add, width, a, b, flags),
-        ArithmeticOp::Or => alu(AluOp::Or, width, a, b, flags),
-        ArithmeticOp::Adc => alu(AluOp::Adc, width, a, b, flags),
-        ArithmeticOp::Sbb => alu(AluOp::Sbb, width, a, b, flags),
-        ArithmeticOp::And => alu(AluOp::And, width, a, b, flags),
-        ArithmeticOp::Sub => alu(AluOp::Sub, width, a, b, flags),
-        ArithmeticOp::Xor => alu(AluOp::Xor, width, a, b, flags),
-        ArithmeticOp::Cmp => alu(AluOp::Cmp, width, a, b, flags),
+        ArithmeticOp::Add => AluOp::Add,
+        ArithmeticOp::Or => AluOp::Or,
+        ArithmeticOp::Adc => AluOp::Adc,
+        ArithmeticOp::Sbb => AluOp::Sbb,
+        ArithmeticOp::And => AluOp::And,
+        ArithmeticOp::Sub => AluOp::Sub,
+        ArithmeticOp::Xor => AluOp::Xor,
+        ArithmeticOp::Cmp => AluOp::Cmp,
     }
 }
 
@@ -78,6 +77,8 @@ pub(crate) fn compare(ctx: &mut Ctx, op: AluOp, width: Width, a: u64, b: u64)
 }
 
 /// ADD to CMP. Answers the value for an operand in memory, which CMP doesn't write.
+///
+/// 32 and 64 bits have code of their own for a register.
 #[inline(always)]
 pub(crate) fn alu_done(
     ctx: &mut Ctx,
@@ -91,14 +92,29 @@ pub(crate) fn alu_done(
     ensures stored { result ≡ (spec.alu_done ctx.old width read op loc.now src.now).stored }
     ensures fits { result < span width }
 {
-    match loc {
-        Loc::Reg(r) => alu_in_register(ctx, width, read, op, *r, src),
-        Loc::High(_) | Loc::Mem(_) => alu_anywhere(ctx, width, read, op, loc, src),
+    match width {
+        Width::D => alu_wide(ctx, Width::D, read, op, loc, src),
+        Width::Q => alu_wide(ctx, Width::Q, read, op, loc, src),
+        Width::B | Width::W => alu_anywhere(ctx, width, read, op, loc, src),
     }
 }
 
-// The same in a register. Where it is known to be one of the 16, it is looked for only once.
+// The same, where one of the 16 registers is looked for first.
 #[inline(always)]
+fn alu_wide(ctx: &mut Ctx, width: Width, read: u64, op: ArithmeticOp, loc: &Loc, src: &Src) -> u64
+    ensures ctx { ctx.new ≡ (spec.alu_done ctx.old width read op loc.now src.now).ctx }
+    ensures stored { result ≡ (spec.alu_done ctx.old width read op loc.now src.now).stored }
+    ensures fits { result < span width }
+{
+    match *loc {
+        Loc::Reg(r) if r < 16 => alu_in_register(ctx, width, read, op, r, src),
+        _ => alu_anywhere(ctx, width, read, op, loc, src),
+    }
+}
+
+// The same in a register.
+#[inline(always)]
+#[tactic(auto, unfolding(crate::specs::Arithmetic::alu_done, crate::specs::Arithmetic::operated, crate::specs::Arithmetic::compared, crate::specs::Done::flagged, crate::specs::Operand::value_at, crate::specs::Operand::with_value))]
 fn alu_in_register(
     ctx: &mut Ctx,
     width: Width,
@@ -111,11 +127,16 @@ fn alu_in_register(
     ensures stored { result ≡ (spec.alu_done ctx.old width read op (Loc.Reg r) src.now).stored }
     ensures fits { result < span width }
 {
-    if r < 16 {
-        alu_at(ctx, width, read, op, &Loc::Reg(r), src)
-    } else {
-        alu_anywhere(ctx, width, read, op, &Loc::Reg(r), src)
+    let a = truncated(width, register(ctx, r));
+    let b = quick_source_at(ctx, width, read, src);
+    let (word, flags) = alu(alu_of(op), width, a, b, ctx.rflags);
+    ctx.rflags = flags;
+    if drops_result(op) {
+        return 0;
     }
+    let old = register(ctx, r);
+    set_register(ctx, r, merged(width, old, word));
+    word
 }
 
 // The same of any operand. Each width has code of its own.
@@ -149,7 +170,7 @@ fn alu_at(ctx: &mut Ctx, width: Width, read: u64, op: ArithmeticOp, loc: &Loc, s
 {
     let a = value_at(ctx, width, read, loc);
     let b = source_at(ctx, width, read, src);
-    let (word, flags) = alu_by(op, width, a, b, ctx.rflags);
+    let (word, flags) = alu(alu_of(op), width, a, b, ctx.rflags);
     ctx.rflags = flags;
     if drops_result(op) {
         return 0;

@@ -42,10 +42,10 @@ pub fn set_register(ctx: &mut Ctx, r: u8, value: u64)
     }
 }
 
-// A register after a result of this width.
+/// A register after a result of this width.
 #[inline(always)]
 #[tactic(auto, unfolding(crate::specs::Operand::merged))]
-fn merged(width: Width, old: u64, value: u64) -> u64
+pub(crate) fn merged(width: Width, old: u64, value: u64) -> u64
     requires { value < span width }
     ensures { result ≡ spec.merged width old value }
 {
@@ -101,6 +101,28 @@ pub(crate) fn source_at(ctx: &Ctx, width: Width, read: u64, src: &Src) -> u64
         Src::Loc(loc) => value_at(ctx, width, read, loc),
         Src::Imm(value) => immediate(width, *value),
     }
+}
+
+/// The same, where a register or an immediate is looked for first.
+#[inline(always)]
+#[tactic(auto, unfolding(crate::specs::Operand::source_at, crate::specs::Operand::value_at))]
+pub(crate) fn quick_source_at(ctx: &Ctx, width: Width, read: u64, src: &Src) -> u64
+    ensures result { result ≡ spec.source_at ctx.now width read src.now }
+    ensures fits { result < span width }
+{
+    match src {
+        Src::Loc(Loc::Reg(r)) => truncated(width, register(ctx, *r)),
+        Src::Imm(value) => immediate(width, *value),
+        Src::Loc(_) => any_source_at(ctx, width, read, src),
+    }
+}
+
+#[inline(never)]
+fn any_source_at(ctx: &Ctx, width: Width, read: u64, src: &Src) -> u64
+    ensures result { result ≡ spec.source_at ctx.now width read src.now }
+    ensures fits { result < span width }
+{
+    source_at(ctx, width, read, src)
 }
 
 /// Writes a result of `width` into its register: 32 bits clear the upper half, 8 and 16 bits leave the rest, and a result

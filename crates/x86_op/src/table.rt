@@ -196,7 +196,17 @@ fn run_unary(ctx: &mut Ctx, width: Width, len: u8, op: UnaryOp, loc: &Loc) -> bo
     true
 }
 
+// Runs a local instruction that is no division.
+#[inline(never)]
+fn run_any(ctx: &mut Ctx, insn: &Insn, len: u8)
+    ensures { ctx.new ≡ (spec.computed ctx.old insn.now len 0).ctx }
+{
+    compute(ctx, insn, len, 0);
+}
+
 /// Runs a local instruction of `len` bytes. `false` is #DE, which leaves the context.
+///
+/// What stands most often in loops has code of its own.
 #[inline(always)]
 #[tactic(auto, unfolding(crate::specs::Table::line))]
 pub fn run_local(ctx: &mut Ctx, insn: &Insn, len: u8) -> bool
@@ -205,10 +215,28 @@ pub fn run_local(ctx: &mut Ctx, insn: &Insn, len: u8) -> bool
     ensures ctx { ctx.new ≡ (if spec.faults ctx.old insn.now 0 then ctx.old else (spec.computed ctx.old insn.now len 0).ctx) }
 {
     match &insn.op {
-        Op::Unary(op, loc) => run_unary(ctx, insn.width, len, *op, loc),
-        _ => {
-            compute(ctx, insn, len, 0);
-            true
+        Op::Unary(op, loc) => return run_unary(ctx, insn.width, len, *op, loc),
+        Op::Alu(op, loc, src) => {
+            pass(ctx, len);
+            alu_done(ctx, insn.width, 0, *op, loc, src);
         }
+        Op::Mov(loc, src) => {
+            pass(ctx, len);
+            mov(ctx, insn.width, 0, loc, src);
+        }
+        Op::Lea(r, mem) => {
+            pass(ctx, len);
+            lea(ctx, insn.width, *r, mem);
+        }
+        Op::Jcc(condition, by) => {
+            pass(ctx, len);
+            jcc(ctx, *condition, *by);
+        }
+        Op::Jmp(by) => {
+            pass(ctx, len);
+            jump(ctx, *by);
+        }
+        _ => run_any(ctx, insn, len),
     }
+    true
 }

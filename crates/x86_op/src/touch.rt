@@ -10,7 +10,7 @@ use crate::bits::only_tests;
 use vm_law::{Insn, Loc, Mem, Op, Src, UnaryOp, Width};
 
 /// What an operation touches besides registers and flags.
-#[derive(Clone, Copy, Debug, PartialEq, Eq)]
+#[derive(Clone, Copy)]
 pub(crate) enum Touch {
     Nothing,
     /// An operand in memory.

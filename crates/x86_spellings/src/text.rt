@@ -61,26 +61,46 @@ fn put_signed(number: i32, out: &mut String) -> Result<(), AllocError> {
     }
 }
 
+fn put_base(base: Option<u8>, out: &mut String) -> Result<(), AllocError> {
+    match base {
+        Some(base) => out.push_str(register(Width::Q, base)),
+        None => Ok(()),
+    }
+}
+
+fn put_index(mem: &Mem, out: &mut String) -> Result<(), AllocError> {
+    let Some(index) = mem.index else {
+        return Ok(());
+    };
+    if mem.base.is_some() {
+        out.push_str("+")?;
+    }
+    write!(out, "{}*{}", register(Width::Q, index), mem.scale)
+}
+
+fn put_displacement(mem: &Mem, out: &mut String) -> Result<(), AllocError> {
+    if mem.disp != 0 || (mem.base.is_none() && mem.index.is_none()) {
+        put_signed(mem.disp, out)
+    } else {
+        Ok(())
+    }
+}
+
+/// The sum that an address is.
+fn put_sum(mem: &Mem, out: &mut String) -> Result<(), AllocError> {
+    if mem.rip {
+        out.push_str("rip")?;
+        return put_signed(mem.disp, out);
+    }
+    put_base(mem.base, out)?;
+    put_index(mem, out)?;
+    put_displacement(mem, out)
+}
+
 /// A place in memory.
 fn put_mem(mem: &Mem, out: &mut String) -> Result<(), AllocError> {
-    if mem.rip {
-        out.push_str("[rip")?;
-        put_signed(mem.disp, out)?;
-        return out.push_str("]");
-    }
     out.push_str("[")?;
-    if let Some(base) = mem.base {
-        out.push_str(register(Width::Q, base))?;
-    }
-    if let Some(index) = mem.index {
-        if mem.base.is_some() {
-            out.push_str("+")?;
-        }
-        write!(out, "{}*{}", register(Width::Q, index), mem.scale)?;
-    }
-    if mem.disp != 0 || (mem.base.is_none() && mem.index.is_none()) {
-        put_signed(mem.disp, out)?;
-    }
+    put_sum(mem, out)?;
     out.push_str("]")
 }
 

@@ -17,7 +17,7 @@ pub(crate) enum GateKind {
 }
 
 /// A gate that is present and has no stack of its own. Source: Intel SDM volume 3, section 6.14.1.
-#[derive(Clone, Copy, Debug, PartialEq, Eq)]
+#[derive(Clone, Copy, PartialEq, Eq)]
 pub(crate) struct Gate {
     pub(crate) target: u64,
     pub(crate) kind: GateKind,

@@ -105,31 +105,31 @@ returns-then-closed-clause-solo g c =
       closed = ap (λ (r : Rounds). (after_round r).state.closed) (sym c.rounds.invariant.rounds.1) ∙ last.1;
     }
 
-pub runner_turn-away-requires-clause-single : goal.runner_turn-away-requires-clause-single
-runner_turn-away-requires-clause-single g c =
+pub take_turn-requires-clause-single : goal.take_turn-requires-clause-single
+take_turn-requires-clause-single g c =
     c.control_turn.ensures.single
 
-pub runner_turn-away-requires-clause-going : goal.runner_turn-away-requires-clause-going
-runner_turn-away-requires-clause-going g c =
+pub take_turn-requires-clause-going : goal.take_turn-requires-clause-going
+take_turn-requires-clause-going g c =
     let going : c.control_turn.new.self.run.state.closed ≡ false = sym c.closed.ensures ∙ c.if-closed.false in
     going
 
-pub runner_turn-away-requires-clause-away : goal.runner_turn-away-requires-clause-away
-runner_turn-away-requires-clause-away g c =
+pub take_turn-requires-clause-away : goal.take_turn-requires-clause-away
+take_turn-requires-clause-away g c =
     let machine = c.control_turn.ensures.machine ∙ ap (λ (t : State). t.machine) c.reserve.ensures.state in
     let seats = c.control_turn.ensures.seats ∙ ap (λ (t : State). t.seats) c.reserve.ensures.state in
     let going : c.control_turn.new.self.run.state.closed ≡ false = sym c.closed.ensures ∙ c.if-closed.false in
     away_stays c.rounds.playing.run.state c.control_turn.new.self.run.state c.rounds.away c.rounds.invariant.away machine seats (going ∙ sym c.rounds.invariant.going)
 
-pub runner_turn-away-requires-clause-room : goal.runner_turn-away-requires-clause-room
-runner_turn-away-requires-clause-room g c =
+pub take_turn-requires-clause-room : goal.take_turn-requires-clause-room
+take_turn-requires-clause-room g c =
     omega (arith, c.control_turn.ensures.room, c.in_ok-reserve.ensures.room)
 
 pub rounds-smaller : goal.rounds-smaller
 rounds-smaller g c =
     let cs : c.control_turn.new.self.run.state ≡ by_choice c.rounds.playing.run.state 0 = c.control_turn.ensures.state ∙ ap (λ (t : State). by_choice t 0) c.reserve.ensures.state in
     let going : c.control_turn.new.self.run.state.closed ≡ false = sym c.closed.ensures ∙ c.if-closed.false in
-    let full = full_round c.rounds.playing.run.state c.control_turn.new.self.run.state c.runner_turn-away.new.self.run.state c.rounds.away.count c.rounds.invariant.single c.rounds.invariant.going c.rounds.invariant.count cs going c.runner_turn-away.ensures.state in
+    let full = full_round c.rounds.playing.run.state c.control_turn.new.self.run.state c.take_turn.new.self.run.state c.rounds.away.count c.rounds.invariant.single c.rounds.invariant.going c.rounds.invariant.count cs going c.take_turn.ensures.state in
     full.less
 
 pub returns-in_err-reserve-clause-later : goal.returns-in_err-reserve-clause-later
@@ -222,26 +222,26 @@ rounds-preserved g c =
     let cs : c.control_turn.new.self.run.state ≡ by_choice c.rounds.playing.run.state 0 = c.control_turn.ensures.state ∙ ap (λ (t : State). by_choice t 0) c.reserve.ensures.state in
     let ch : c.control_turn.new.self.entries.items ≡ c.rounds.playing.entries.items ++ chosen c.rounds.playing.run.state 0 = c.control_turn.ensures.history ∙ ap (λ (l : List Signed). l ++ chosen c.reserve.new.self.run.state 0) c.reserve.ensures.history ∙ ap (λ (t : State). c.rounds.playing.entries.items ++ chosen t 0) c.reserve.ensures.state in
     let going : c.control_turn.new.self.run.state.closed ≡ false = sym c.closed.ensures ∙ c.if-closed.false in
-    let full = full_round c.rounds.playing.run.state c.control_turn.new.self.run.state c.runner_turn-away.new.self.run.state c.rounds.away.count c.rounds.invariant.single c.rounds.invariant.going c.rounds.invariant.count cs going c.runner_turn-away.ensures.state in
+    let full = full_round c.rounds.playing.run.state c.control_turn.new.self.run.state c.take_turn.new.self.run.state c.rounds.away.count c.rounds.invariant.single c.rounds.invariant.going c.rounds.invariant.count cs going c.take_turn.ensures.state in
     let whole : Takes c.control_turn.new.self.run.state.console (g.S.Sink.seen c.args.console.now) (g.S.Sink.seen c.send_rest.new.console) =
     sent_all c.rounds.playing.run.state.console c.control_turn.new.self.run.state.console c.rounds.sent (g.S.Sink.seen c.args.console.now) (g.S.Sink.seen c.rounds.console) (g.S.Sink.seen c.send_rest.new.console) sent.1 c.rounds.invariant.took c.in-Ok.ensures.whole in
-    let last = sent_on c.control_turn.new.self c.runner_turn-away.new.self (length c.control_turn.new.self.run.state.console) c.runner_turn-away.ensures.continues (omega arith) in
-    let front : c.control_turn.new.self.run.state.console ≡ take c.in-Ok.all c.runner_turn-away.new.self.run.state.console
-    = sym (take_all (length c.control_turn.new.self.run.state.console) c.control_turn.new.self.run.state.console (omega arith)) ∙ sym last.1 ∙ ap (λ (k : ℕ). take k c.runner_turn-away.new.self.run.state.console) (sym c.in-Ok.ensures.sent) in
+    let last = sent_on c.control_turn.new.self c.take_turn.new.self (length c.control_turn.new.self.run.state.console) c.take_turn.ensures.continues (omega arith) in
+    let front : c.control_turn.new.self.run.state.console ≡ take c.in-Ok.all c.take_turn.new.self.run.state.console
+    = sym (take_all (length c.control_turn.new.self.run.state.console) c.control_turn.new.self.run.state.console (omega arith)) ∙ sym last.1 ∙ ap (λ (k : ℕ). take k c.take_turn.new.self.run.state.console) (sym c.in-Ok.ensures.sent) in
     record {
-      single = c.runner_turn-away.ensures.single;
-      going = c.runner_turn-away.ensures.going;
+      single = c.take_turn.ensures.single;
+      going = c.take_turn.ensures.going;
       inside = full.inside c.rounds.invariant.inside;
-      count = c.runner_turn-away.ensures.count;
-      away = c.runner_turn-away.ensures.away;
-      continues = continues_on c.args.playing.now c.control_turn.new.self c.runner_turn-away.new.self (continues_on c.args.playing.now c.rounds.playing c.control_turn.new.self c.rounds.invariant.continues c13) c.runner_turn-away.ensures.continues;
+      count = c.take_turn.ensures.count;
+      away = c.take_turn.ensures.away;
+      continues = continues_on c.args.playing.now c.control_turn.new.self c.take_turn.new.self (continues_on c.args.playing.now c.rounds.playing c.control_turn.new.self c.rounds.invariant.continues c13) c.take_turn.ensures.continues;
       rounds = (
         suc c.rounds.invariant.rounds.0,
-        round_made c.rounds.playing.run.state c.control_turn.new.self.run.state c.runner_turn-away.new.self.run.state c.rounds.playing.entries.items c.control_turn.new.self.entries.items c.runner_turn-away.new.self.entries.items c.rounds.away.count c.runner_turn-away.result.count cs ch c.runner_turn-away.ensures.state c.runner_turn-away.ensures.history c.runner_turn-away.ensures.count
+        round_made c.rounds.playing.run.state c.control_turn.new.self.run.state c.take_turn.new.self.run.state c.rounds.playing.entries.items c.control_turn.new.self.entries.items c.take_turn.new.self.entries.items c.rounds.away.count c.take_turn.new.away.count cs ch c.take_turn.ensures.state c.take_turn.ensures.history c.take_turn.ensures.count
             ∙ ap (λ (r : Rounds). after_round r) c.rounds.invariant.rounds.1,
         c.in-Ok.ensures.sent ∙ ap (λ (t : State). length t.console) cs ∙ ap (λ (r : Rounds). length (by_choice r.state 0).console) c.rounds.invariant.rounds.1,
       );
-      within = subst (λ (k : ℕ). k ≤ length c.runner_turn-away.new.self.run.state.console) (sym c.in-Ok.ensures.sent) last.0;
+      within = subst (λ (k : ℕ). k ≤ length c.take_turn.new.self.run.state.console) (sym c.in-Ok.ensures.sent) last.0;
       took = subst (λ (l : List ℕ). Takes l (g.S.Sink.seen c.args.console.now) (g.S.Sink.seen c.send_rest.new.console)) front whole;
       faults = c.in-Ok.ensures.cause.quiet ∙ c.rounds.invariant.faults;
     }
