@@ -1,6 +1,6 @@
 use std::alloc::{AllocError, Global};
 use std::test::Fail;
-use vm_image::{ImageError, ImageKind, faults_are_all, read};
+use vm_image::{ImageError, ImageKind, faults_are_all, read, write};
 
 /// The file of an image of nine bytes, all of them code, that writes an A and halts.
 const FIRST: [u8; 33] = [
@@ -111,6 +111,15 @@ fn first_image(rt: HostRuntime) -> Result<(), Fail> {
         image.payload.as_slice(),
         [0xBA, 0xF8, 0x03, 0, 0, 0xB0, 0x41, 0xEE, 0xF4].as_slice()
     );
+    Ok(())
+}
+
+/// An image that was read is written as it stood.
+#[test]
+fn written(rt: HostRuntime) -> Result<(), Fail> {
+    let image = read(rt.alloc(), &FIRST, MEBIBYTE)?;
+    let bytes = write(rt.alloc(), &image)?;
+    assert_eq!(rt; bytes.as_slice(), FIRST.as_slice());
     Ok(())
 }
 

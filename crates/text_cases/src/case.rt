@@ -1,7 +1,7 @@
 use std::alloc::{AllocError, AllocFailed, Global};
 use text_reader::digit;
 use thiserror::Error;
-use vm_law::{OutOfMemory, Text};
+use vm_law::OutOfMemory;
 
 /// Why a case wasn't read.
 #[derive(Debug, Drop, Error)]
@@ -38,30 +38,15 @@ fn byte_of(high: u8, low: u8) -> Result<u8, CaseError> {
     Ok(high * 16 + low)
 }
 
-/// The byte that a letter behind a backslash spells.
-fn escaped(letter: u8) -> Result<u8, CaseError> {
-    match letter {
-        b'n' => Ok(b'\n'),
-        b'r' => Ok(b'\r'),
-        b't' => Ok(b'\t'),
-        b'\\' => Ok(b'\\'),
-        _ => Err(CaseError::Form),
-    }
-}
-
-/// The byte that is spelled behind a backslash, and what follows.
-fn escaped_byte(text: &[u8]) -> Result<(u8, &[u8]), CaseError> {
-    match text {
-        [b'x', high, low, rest @ ..] => Ok((byte_of(*high, *low)?, rest)),
-        [letter, rest @ ..] => Ok((escaped(*letter)?, rest)),
-        [] => Err(CaseError::Form),
-    }
-}
-
 /// The byte that a text begins with, spelled by itself or behind a backslash, and what follows.
 fn first_byte(text: &[u8]) -> Result<(u8, &[u8]), CaseError> {
     match text {
-        [b'\\', rest @ ..] => escaped_byte(rest),
+        [b'\\', b'n', rest @ ..] => Ok((b'\n', rest)),
+        [b'\\', b'r', rest @ ..] => Ok((b'\r', rest)),
+        [b'\\', b't', rest @ ..] => Ok((b'\t', rest)),
+        [b'\\', b'\\', rest @ ..] => Ok((b'\\', rest)),
+        [b'\\', b'x', high, low, rest @ ..] => Ok((byte_of(*high, *low)?, rest)),
+        [b'\\', ..] => Err(CaseError::Form),
         [b, rest @ ..] => Ok((*b, rest)),
         [] => Err(CaseError::Form),
     }
@@ -149,18 +134,4 @@ pub fn put_lines(out: &mut String, text: &str) -> Result<(), CaseError> {
         }
     }
     Ok(())
-}
-
-/// Adds a word, and a text.
-pub fn put_named(out: &mut String, what: &str, text: &Text) -> Result<(), CaseError> {
-    out.push_str(what)?;
-    put_text(out, text.as_str())
-}
-
-/// The same of a text that may be missing; nothing for none.
-pub fn put_file(out: &mut String, what: &str, file: &Option<Text>) -> Result<(), CaseError> {
-    match file {
-        Some(name) => put_named(out, what, name),
-        None => Ok(()),
-    }
 }

@@ -1,21 +1,16 @@
-use crate::case::{CaseError, bytes_of, put_file, put_named, put_text};
+use crate::case::{CaseError, bytes_of, put_text};
 use cfg_text::{CfgError, Config};
-use cfg_vm::{PlanError, PlanKind};
+use cfg_vm::PlanError;
 use std::alloc::Global;
-use vm_law::{DiskPlan, Plan, Text};
+use vm_law::{Plan, Text};
 
-/// What a text is read as.
-fn config_of(alloc: Global, text: &str) -> Result<Result<Config, CfgError>, CaseError> {
+/// The configuration that a text is; its fault is told.
+fn read(alloc: Global, text: &str, out: &mut String) -> Result<Option<Config>, CaseError> {
     let bytes = bytes_of(alloc, text)?;
     if bytes.len() >= 0x1_0000_0000 {
         return Err(CaseError::Form);
     }
-    Ok(cfg_text::read(alloc, &bytes))
-}
-
-/// The configuration that a text is; its fault is told.
-fn read(alloc: Global, text: &str, out: &mut String) -> Result<Option<Config>, CaseError> {
-    match config_of(alloc, text)? {
+    match cfg_text::read(alloc, &bytes) {
         Ok(config) => Ok(Some(config)),
         Err(CfgError::Fault { line, kind }) => {
             write!(out, "at {line}: {kind}")?;
@@ -76,57 +71,34 @@ pub fn get_outcome(alloc: Global, rest: &str) -> Result<String, CaseError> {
     Ok(out)
 }
 
-fn put_sizes(out: &mut String, plan: &Plan) -> Result<(), CaseError> {
+fn put_file(out: &mut String, what: &str, file: &Option<Text>) -> Result<(), CaseError> {
+    if let Some(name) = file {
+        out.push_str(what)?;
+        put_text(out, name.as_str())?;
+    }
+    Ok(())
+}
+
+fn put_plan(out: &mut String, plan: &Plan) -> Result<(), CaseError> {
     let cpus = plan.cpus;
     let memory = plan.memory;
     write!(out, "cpus {cpus} memory {memory} name [")?;
     put_text(out, plan.name.as_str())?;
-    Ok(out.push_str("]")?)
-}
-
-fn put_disk(out: &mut String, disk: &DiskPlan) -> Result<(), CaseError> {
-    put_named(out, " disk ", &disk.path)?;
-    out.push_str(if disk.ro { " ro " } else { " rw " })?;
-    let workers = disk.workers;
-    write!(out, "{workers}")?;
-    Ok(())
-}
-
-fn put_disks(out: &mut String, disks: &[DiskPlan]) -> Result<(), CaseError> {
-    for disk in disks {
-        put_disk(out, disk)?;
-    }
-    Ok(())
-}
-
-fn put_not_built(out: &mut String, names: &[Text]) -> Result<(), CaseError> {
-    for name in names {
-        put_named(out, " not built ", name)?;
-    }
-    Ok(())
-}
-
-fn put_files(out: &mut String, plan: &Plan) -> Result<(), CaseError> {
+    out.push_str("]")?;
     put_file(out, " image ", &plan.image)?;
-    put_file(out, " script ", &plan.script)
-}
-
-fn put_plan(out: &mut String, plan: &Plan) -> Result<(), CaseError> {
-    put_sizes(out, plan)?;
-    put_files(out, plan)?;
-    put_disks(out, plan.disks.as_slice())?;
-    put_not_built(out, plan.notbuilt.as_slice())
-}
-
-fn put_fault(out: &mut String, variable: &str, kind: PlanKind) -> Result<(), CaseError> {
-    put_text(out, variable)?;
-    write!(out, ": {kind}")?;
+    put_file(out, " script ", &plan.script)?;
+    for disk in plan.disks.as_slice() {
+        out.push_str(" disk ")?;
+        put_text(out, disk.path.as_str())?;
+        out.push_str(if disk.ro { " ro " } else { " rw " })?;
+        let workers = disk.workers;
+        write!(out, "{workers}")?;
+    }
+    for name in plan.notbuilt.as_slice() {
+        out.push_str(" not built ")?;
+        put_text(out, name.as_str())?;
+    }
     Ok(())
-}
-
-/// What a configuration is planned as.
-fn planned(alloc: Global, config: &Config, restore: bool) -> Result<Plan, PlanError> {
-    cfg_vm::plan(alloc, config, restore)
 }
 
 /// What a configuration plans.
@@ -135,9 +107,12 @@ pub fn plan_outcome(alloc: Global, text: &str, restore: bool) -> Result<String, 
     let Some(config) = read(alloc, text, &mut out)? else {
         return Ok(out);
     };
-    match planned(alloc, &config, restore) {
+    match cfg_vm::plan(alloc, &config, restore) {
         Ok(plan) => put_plan(&mut out, &plan)?,
-        Err(PlanError::Fault { variable, kind }) => put_fault(&mut out, variable.as_str(), kind)?,
+        Err(PlanError::Fault { variable, kind }) => {
+            put_text(&mut out, variable.as_str())?;
+            write!(out, ": {kind}")?;
+        }
         Err(PlanError::Memory) => return Err(CaseError::Memory),
     }
     Ok(out)

@@ -3,8 +3,8 @@ use ctl_script::ScriptError;
 use std::alloc::Global;
 use vm_law::{DiskPlan, OutOfMemory, Plan, Seq, Text};
 
-/// So many disks.
-fn disks_of(alloc: Global, count: u32) -> Result<Seq<DiskPlan>, OutOfMemory> {
+/// A plan of so many vCPUs and disks.
+fn plan_of(alloc: Global, cpus: u8, count: u32) -> Result<Plan, OutOfMemory> {
     let mut disks = Seq::new(alloc);
     for _ in 0..count {
         disks.push(DiskPlan {
@@ -13,17 +13,10 @@ fn disks_of(alloc: Global, count: u32) -> Result<Seq<DiskPlan>, OutOfMemory> {
             workers: 2,
         })?;
     }
-    Ok(disks)
-}
-
-/// A plan of so many vCPUs and disks.
-fn plan_of(alloc: Global, cpus: u8, count: u32) -> Result<Plan, OutOfMemory> {
-    let disks = disks_of(alloc, count)?;
-    let name = Text::from_text(alloc, "")?;
     Ok(Plan {
         cpus,
         memory: 268_435_456,
-        name,
+        name: Text::from_text(alloc, "")?,
         image: None,
         script: None,
         disks,
@@ -31,37 +24,19 @@ fn plan_of(alloc: Global, cpus: u8, count: u32) -> Result<Plan, OutOfMemory> {
     })
 }
 
-/// The print of the script that a text is, or why it is none.
-fn print_of(
-    alloc: Global,
-    bytes: &[u8],
-    plan: &Plan,
-) -> Result<Result<String, ScriptError>, CaseError> {
+/// The print of the script that a text is, or the fault that it has.
+fn printed(alloc: Global, bytes: &[u8], plan: &Plan) -> Result<Result<String, String>, CaseError> {
     if bytes.len() >= 0x1_0000_0000 {
         return Err(CaseError::Form);
     }
     match ctl_script::read(alloc, bytes, plan) {
         Ok(script) => Ok(Ok(ctl_script::print(alloc, &script)?)),
-        Err(error) => Ok(Err(error)),
-    }
-}
-
-/// The print of the script that a text is, or the fault that it has.
-fn printed(alloc: Global, bytes: &[u8], plan: &Plan) -> Result<Result<String, String>, CaseError> {
-    match print_of(alloc, bytes, plan)? {
-        Ok(text) => Ok(Ok(text)),
         Err(ScriptError::Fault { line, kind }) => {
             let fault = format!(in alloc; "at {line}: {kind}")?;
             Ok(Err(fault))
         }
         Err(ScriptError::Memory) => Err(CaseError::Memory),
     }
-}
-
-/// Adds what came in the place of a print.
-fn put_differing(out: &mut String, again: &str) -> Result<(), CaseError> {
-    out.push_str(" differs ")?;
-    put_lines(out, again)
 }
 
 /// Adds a print, and what its own print is where that is another one.
@@ -74,28 +49,31 @@ fn put_print(alloc: Global, out: &mut String, text: &str, plan: &Plan) -> Result
     }
     match printed(alloc, text.as_bytes(), plan)? {
         Ok(again) if again.as_str() == text => Ok(()),
-        Ok(again) | Err(again) => put_differing(out, again.as_str()),
+        Ok(again) => {
+            out.push_str(" differs ")?;
+            put_lines(out, again.as_str())
+        }
+        Err(fault) => {
+            out.push_str(" differs ")?;
+            put_lines(out, fault.as_str())
+        }
     }
 }
 
-/// The vCPUs, the disks and the text of `CPUS DISKS TEXT`.
-fn fields_of(rest: &str) -> Result<(u8, u32, &str), CaseError> {
+/// The print of a script.
+pub fn script_outcome(alloc: Global, rest: &str) -> Result<String, CaseError> {
     let Some((cpus, rest)) = rest.split_once(' ') else {
         return Err(CaseError::Form);
     };
     let Some((disks, text)) = rest.split_once(' ') else {
         return Err(CaseError::Form);
     };
-    match number_of(cpus.as_bytes())? {
-        cpus if cpus <= 16 => Ok((cpus as u8, number_of(disks.as_bytes())?, text)),
-        _ => Err(CaseError::Form),
+    let cpus = number_of(cpus.as_bytes())?;
+    let disks = number_of(disks.as_bytes())?;
+    if cpus > 16 {
+        return Err(CaseError::Form);
     }
-}
-
-/// The print of a script.
-pub fn script_outcome(alloc: Global, rest: &str) -> Result<String, CaseError> {
-    let (cpus, disks, text) = fields_of(rest)?;
-    let plan = plan_of(alloc, cpus, disks)?;
+    let plan = plan_of(alloc, cpus as u8, disks)?;
     let bytes = bytes_of(alloc, text)?;
     let mut out = String::new(alloc);
     match printed(alloc, &bytes, &plan)? {

@@ -12,7 +12,8 @@ use byteorder::{ByteOrder, LittleEndian};
 use std::alloc::Global;
 use vm_law::{FlatImage, Seq};
 
-const MAGIC: [u8; 8] = *b"VMFLAT1\n";
+/// What the file of an image begins with.
+pub(crate) const MAGIC: [u8; 8] = *b"VMFLAT1\n";
 
 /// How many bytes stand before the payload.
 const HEADER_SIZE: usize = 24;
