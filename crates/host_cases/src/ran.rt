@@ -1,6 +1,6 @@
 //! Command lines.
-use crate::case::CaseError;
-use crate::gave::Gave;
+use crate::case::{CaseError, number_of};
+use crate::gave::{Answer, Gave};
 use std::alloc::Global;
 use std::sync::Wait;
 use std::thread::Threads;
@@ -13,6 +13,8 @@ pub struct Ran {
     /// Its exit status, or 0.
     pub status: u8,
     console: MemSink,
+    /// Which call of the next one's console is to fail, if one is.
+    fault: Option<u64>,
 }
 
 impl Ran {
@@ -21,7 +23,23 @@ impl Ran {
         Ran {
             status: 0,
             console: MemSink::new(alloc),
+            fault: None,
         }
+    }
+
+    /// The call of this number of the next command line's console is to fail.
+    pub fn fail_console(&mut self, number: &str) -> Result<Gave, CaseError> {
+        self.fault = Some(number_of(number)?);
+        Ok(Gave::Answer(Answer::Done))
+    }
+
+    /// A console that took nothing, for the next command line.
+    fn renew_console(&mut self, alloc: Global) -> Result<(), CaseError> {
+        self.console = MemSink::new(alloc);
+        if let Some(call) = self.fault.take() {
+            self.console.fail(call)?;
+        }
+        Ok(())
     }
 
     /// Runs a command line: WORD|WORD|..
@@ -36,7 +54,7 @@ impl Ran {
         for word in text.split('|') {
             words.push(word)?;
         }
-        self.console = MemSink::new(alloc);
+        self.renew_console(alloc)?;
         let mut log = MemSink::new(alloc);
         let outcome = vmrun(
             threads,
