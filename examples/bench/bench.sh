@@ -24,10 +24,12 @@ loop() { python3 "$here/loops.py" "$@"; }
 # how many instructions a round of a loop has
 round_of() { if [ "$1" = registers ]; then echo 4; else echo 7; fi; }
 
-# user seconds of a command
+# user seconds of a command, the least of seven runs
 user_of() {
     local TIMEFORMAT=%U
-    { time "$@" >/dev/null 2>&1 </dev/null; } 2>&1
+    for _ in 1 2 3 4 5 6 7; do
+        { time "$@" >/dev/null 2>&1 </dev/null; } 2>&1
+    done | sort -n | head -1
 }
 
 # host instructions of a command
@@ -49,6 +51,7 @@ vgaromimage: file=/usr/share/vgabios/vgabios.bin
 floppya: 1_44=$1, status=inserted
 boot: floppy
 log: bochs.log
+sound: waveoutdrv=dummy, waveindrv=dummy, midioutdrv=dummy
 END
     rm -f ./*.lock
     printf 'c\nq\n' | bochs -q -f bochsrc
