@@ -1,0 +1,21 @@
+use Rattle.std.proofs.Common.{◌≡◌, get_or, refl, arith}
+use Rattle.std.specs.Prelude.{Ok}
+use Rattle.x86_decode.specs.Reading.{decoded}
+use Rattle.vm_asm.specs.Disassembly.{instruction, byte}
+use Rattle.vm_asm.proofs.Pieces.{length_some, first_of, undecoded}
+use Rattle.vm_asm.proofs.disassembling.put_first.Goals as goal
+
+pub returns-in_ok-put_line-in-Ok-clause-read : goal.returns-in_ok-put_line-in-Ok-clause-read
+returns-in_ok-put_line-in-Ok-clause-read c =
+    let d : decoded c.args.code.now ≡ Ok (c.in-Ok.insn, c.from.result) = cc in
+    (instruction c.in-Ok.insn, d, c.in_ok-put_line-in-Ok.ensures)
+
+pub returns-in_ok-put_line-in-Ok-clause-some : goal.returns-in_ok-put_line-in-Ok-clause-some
+returns-in_ok-put_line-in-Ok-clause-some c =
+    let some = length_some _ c.args.code.now _ c.in-Ok.ensures.found in
+    let same : c.from.result ≡ c.in-Ok.count = cc in
+    omega arith
+
+pub returns-in_ok-put_byte-in-Err-clause-read : goal.returns-in_ok-put_byte-in-Err-clause-read
+returns-in_ok-put_byte-in-Err-clause-read c =
+    (byte (get_or c.args.code.now 0 0), (refl, first_of c.args.code.now c.requires, undecoded (decoded c.args.code.now) _ c.in-Err.ensures.computed), c.in_ok-put_byte-in-Err.ensures)

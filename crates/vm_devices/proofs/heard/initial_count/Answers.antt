@@ -1,0 +1,8 @@
+use Rattle.std.proofs.Common.{refl}
+use Rattle.vm_lapic.specs.declared.register.Register.TheVariants.{InitialCount}
+use Rattle.vm_lapic.specs.Window.{value_of}
+use Rattle.vm_devices.proofs.heard.initial_count.Goals as goal
+
+pub returns : goal.returns
+unfolding value_of
+returns c = c.read.ensures.register InitialCount refl refl

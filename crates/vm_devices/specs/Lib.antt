@@ -1,0 +1,4 @@
+pub mod Messages
+pub mod Timers
+pub mod Ports
+pub mod Windows

@@ -1,0 +1,11 @@
+pub mod Lookup
+pub mod Segments
+pub mod Going
+pub mod Allowed
+pub mod Taken
+pub mod KeptDrives
+pub mod KeptQueues
+pub mod KeptRows
+pub mod Keeps
+pub mod KeepsFinish
+pub mod KeepsPull

@@ -1,0 +1,4 @@
+pub mod Requests
+pub mod Queueing
+pub mod Moving
+pub mod Images

@@ -1,0 +1,11 @@
+pub mod Stuck
+pub mod Counting
+pub mod Entries
+pub mod Vectors
+pub mod Meetings
+pub mod Requests
+pub mod Cuts
+pub mod Owned
+pub mod Timers
+pub mod Ending
+pub mod Waiting

@@ -1,0 +1,3 @@
+pub mod Noted
+pub mod Keeps
+pub mod KeepsDone

@@ -1,0 +1,4 @@
+pub mod Quiet
+pub mod Duties
+pub mod Done
+pub mod Ending

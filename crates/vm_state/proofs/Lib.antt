@@ -1,0 +1,11 @@
+pub mod Fresh
+pub mod Lists
+pub mod Booted
+pub mod Script
+pub mod First
+pub mod Flat
+pub mod Sound
+pub mod Same
+pub mod Keeps
+pub mod Answering
+pub mod Copied

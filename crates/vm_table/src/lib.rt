@@ -1,0 +1,2 @@
+//! The table of entries, what an actor chooses in its turn, and histories.
+#![tactic(auto)]
