@@ -3,10 +3,11 @@ use Rattle.std.specs.Prelude.{◌||◌}
 use Rattle.std.proofs.Common.{◌≡◌, ℕ, ◌≤◌, Bool, List, length, get_or, sym, ap, subst, ◌∙◌}
 use Rattle.vm_law.specs.declared.context.Ctx.{Ctx}
 use Rattle.vm_law.specs.declared.message.Message.{Message}
+use Rattle.vm_law.specs.declared.stage.Owned.{Owned}
 use Rattle.x86_op.specs.Flow.{masked_flags}
 use Rattle.vm_state.specs.declared.cpu.Cpu.{Cpu}
 use Rattle.vm_state.specs.Machine.{MachineState, cpu_at, unstarted_cpu}
-use Rattle.vm_state.specs.Sound.{IsMachine, IsCpu}
+use Rattle.vm_state.specs.Sound.{IsMachine, IsCpu, runs}
 use Rattle.vm_devices.specs.Messages.{sent, all_sent}
 use Rattle.vm_devices.proofs.Same.{SameCpu, Same, sent_same, all_same}
 
@@ -15,8 +16,9 @@ cpu_kept i c d same h = record {
   flags = subst (λ (x : Ctx). masked_flags x.rflags ≡ x.rflags) (sym same.ctx) h.flags;
   waits = same.waits h.waits;
   unstarted = λ e.
-      ap (λ (b : Bool). b || d.ctx.shadow || d.ctx.nmi_block) same.halted
-      ∙ ap (λ (x : Ctx). c.halted || x.shadow || x.nmi_block) same.ctx
+      ap (λ (b : Bool). b || d.ctx.shadow || d.ctx.nmi_block || runs d.stage) same.halted
+      ∙ ap (λ (x : Ctx). c.halted || x.shadow || x.nmi_block || runs d.stage) same.ctx
+      ∙ ap (λ (x : Owned). c.halted || c.ctx.shadow || c.ctx.nmi_block || runs x) same.stage
       ∙ h.unstarted (sym same.started ∙ e);
   number = same.apic.number ∙ h.number;
 }

@@ -37,7 +37,7 @@ use Rattle.vm_state.specs.declared.run_state.Why.{Why}
 use Rattle.vm_state.specs.declared.run_state.Why.TheVariants.{Finished}
 use Rattle.vm_state.specs.Machine.{MachineState, cpu_at, cpu_count, cpu_numbers, drive_at, drive_count, unstarted_cpu, with_cpu, with_ctx}
 use Rattle.vm_state.specs.State.{State, image_at, next_order, with_image, with_machine}
-use Rattle.vm_state.specs.Sound.{CountsFit, ImageFits, ImagesFit, IsCpu, IsHeld, IsMachine, IsSoundState, MeetFits, OrdersFit, SamplesFit, ScriptFits, ScriptStands, SeatsFit, is_midway, is_out, is_sampled, samples_under_way, runs_flags}
+use Rattle.vm_state.specs.Sound.{CountsFit, ImageFits, ImagesFit, IsCpu, IsHeld, IsMachine, IsSoundState, MeetFits, OrdersFit, SamplesFit, ScriptFits, ScriptStands, SeatsFit, is_midway, is_out, is_sampled, samples_under_way, runs}
 use Rattle.vm_devices.proofs.KeptRun.{SameRun, keeps_run}
 use Rattle.vm_orders.specs.Duties.{is_pause, is_rendezvous}
 use Rattle.vm_orders.proofs.Keeps.{first_paused, keeps_pause, none_is, not_true}
@@ -241,7 +241,7 @@ set_is i reg value c h =
     record {
       flags = k.flags;
       waits = h.waits;
-      unstarted = λ e. ap (λ b. c.halted || b || (with_register c.ctx reg value).nmi_block) k.shadow ∙ ap (λ b. c.halted || c.ctx.shadow || b) k.block ∙ h.unstarted e;
+      unstarted = λ e. ap (λ b. c.halted || b || (with_register c.ctx reg value).nmi_block || runs c.stage) k.shadow ∙ ap (λ b. c.halted || c.ctx.shadow || b || runs c.stage) k.block ∙ h.unstarted e;
       number = h.number;
     }
 

@@ -36,7 +36,7 @@ fn is_waiting(run: &RunState, order: Option<&Order>) -> bool
 /// Whether what was allowed is used up: 40,000,000 entries stand, or as many instructions were executed as may be, while a
 /// vCPU has something to do and a wait isn't over.
 #[tactic(auto, unfolding(crate::specs::Ending::is_used_up))]
-fn is_used_up(run: &RunState) -> bool
+pub fn is_used_up(run: &RunState) -> bool
     requires { IsSoundState run.now.state }
     ensures { result ≡ spec.is_used_up run.now.state }
 {

@@ -7,18 +7,27 @@ use Rattle.std.proofs.lemmas.Grind.{common_steps}
 use Rattle.std.proofs.lemmas.List.{get_or_past}
 use Rattle.vm_law.specs.declared.stage.Owned.{Owned}
 use Rattle.vm_law.specs.declared.stage.Owned.TheVariants.{Idle, Frozen, Running, Sleeping}
+use Rattle.vm_state.specs.declared.cpu.Cpu.{Cpu}
 use Rattle.vm_state.specs.Machine.{MachineState, unstarted_cpu, cpu_at, cpu_count, ctx_from, is_idle, is_frozen, is_running, is_sleeping}
-use Rattle.vm_state.specs.Sound.{IsCpu, IsMachine, IsSoundState}
+use Rattle.vm_state.specs.Sound.{IsCpu, IsMachine, IsSoundState, has_run, runs}
 use Rattle.vm_state.specs.State.{State, seat_at}
 use Rattle.vm_state.proofs.Keeps.{Continues, keeps_cpu, keeps_stage, keeps_at, grants_set}
 use Rattle.vm_owners.specs.Owners.{may_claim, after_claim, page_of, started_at, may_start, after_start, may_exit, after_exit, may_sleep, after_sleep, may_wake, after_wake, may_yield, after_yield}
 use Rattle.vm_owners.proofs.Stages.{same_pass, idle_is, frozen_is, running_is, sleeping_is, owner_in, stay_in}
 
--- a vCPU in another stage
-staged : (s : State) (i : ℕ) (stage : Owned) → IsSoundState s → Continues i (cpu_at s.machine i) (record (cpu_at s.machine i) { stage = stage })
-staged s i stage h =
+-- a vCPU that isn't started, and doesn't run from now on either
+parked : (cpu : Cpu) (stage : Owned) → runs stage ≡ false → has_run cpu ≡ false → has_run (record cpu { stage = stage }) ≡ false
+parked cpu stage still h = grind (arith, common_steps, and_parts)
+
+-- a vCPU in a stage in which it doesn't run
+staged : (s : State) (i : ℕ) (stage : Owned) → runs stage ≡ false → IsSoundState s → Continues i (cpu_at s.machine i) (record (cpu_at s.machine i) { stage = stage })
+staged s i stage still h =
     let c = h.machine.each_cpu i in
-    record { is_cpu = record { flags = c.flags; waits = c.waits; unstarted = c.unstarted; number = c.number }; started = λ e. e; timer = λ e. e }
+    record {
+      is_cpu = record { flags = c.flags; waits = c.waits; unstarted = λ e. parked (cpu_at s.machine i) stage still (c.unstarted e); number = c.number };
+      started = λ e. e;
+      timer = λ e. e;
+    }
 
 -- ---- Claim
 
@@ -40,7 +49,7 @@ pub keeps_claim : (s : State) (p i : ℕ) → IsSoundState s → may_claim s p i
 unfolding after_claim
 keeps_claim s p i h m =
     let t = claim_tells s p i m in
-    keeps_stage s i (record (cpu_at s.machine i) { stage = Frozen p }) h (staged s i (Frozen p) h)
+    keeps_stage s i (record (cpu_at s.machine i) { stage = Frozen p }) h (staged s i (Frozen p) refl h)
     (record { owner = t.pass; stay = stay_in s i Idle h (idle_is _ t.stage); ran = (h.seats.each i).ran })
 
 -- ---- Start
@@ -77,7 +86,7 @@ keeps_exit s p i h m =
     let seat = record (seat_at s i) { left = 0; stayed = false } in
     let bound = grants_set s.seats i seat (omega arith) in
     let granted = h.counts.granted in
-    keeps_at s i (record (cpu_at s.machine i) { stage = Frozen p }) seat s.executed h (staged s i (Frozen p) h)
+    keeps_at s i (record (cpu_at s.machine i) { stage = Frozen p }) seat s.executed h (staged s i (Frozen p) refl h)
     (record { owner = inr (owner_in s i (Running p) h (running_is _ p t.1)); stay = refl; ran = (h.seats.each i).ran }) (omega arith) (omega arith)
 
 -- ---- Sleep
@@ -90,7 +99,7 @@ pub keeps_sleep : (s : State) (p i : ℕ) → IsSoundState s → may_sleep s p i
 unfolding after_sleep
 keeps_sleep s p i h m =
     let t = sleep_tells s p i m in
-    keeps_stage s i (record (cpu_at s.machine i) { stage = Sleeping p }) h (staged s i (Sleeping p) h)
+    keeps_stage s i (record (cpu_at s.machine i) { stage = Sleeping p }) h (staged s i (Sleeping p) refl h)
     (record { owner = t.1; stay = stay_in s i (Frozen p) h (frozen_is _ p t.0); ran = (h.seats.each i).ran })
 
 -- ---- Wake
@@ -103,7 +112,7 @@ pub keeps_wake : (s : State) (p i : ℕ) → IsSoundState s → may_wake s p i �
 unfolding after_wake
 keeps_wake s p i h m =
     let at = sleeping_is (cpu_at s.machine i).stage p (wake_tells s p i m) in
-    keeps_stage s i (record (cpu_at s.machine i) { stage = Frozen p }) h (staged s i (Frozen p) h)
+    keeps_stage s i (record (cpu_at s.machine i) { stage = Frozen p }) h (staged s i (Frozen p) refl h)
     (record { owner = inr (owner_in s i (Sleeping p) h at); stay = stay_in s i (Sleeping p) h at; ran = (h.seats.each i).ran })
 
 -- ---- Yield
@@ -115,5 +124,5 @@ yield_tells s p i m = grind (arith, nat_tests, common_steps, and_parts)
 pub keeps_yield : (s : State) (p i : ℕ) → IsSoundState s → may_yield s p i ≡ true → IsSoundState (after_yield s i)
 unfolding after_yield
 keeps_yield s p i h m =
-    keeps_stage s i (record (cpu_at s.machine i) { stage = Idle }) h (staged s i Idle h)
+    keeps_stage s i (record (cpu_at s.machine i) { stage = Idle }) h (staged s i Idle refl h)
     (record { owner = tt; stay = stay_in s i (Frozen p) h (frozen_is _ p (yield_tells s p i m)); ran = (h.seats.each i).ran })

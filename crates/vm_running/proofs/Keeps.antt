@@ -1,25 +1,21 @@
--- What holds of every run is kept by what a vCPU's entries do, word by word. That RFLAGS keeps only its built bits is for
--- whoever computes a context: it stands as a premise here.
+-- What holds of every run is kept by what a vCPU's entries do, word by word.
 use Rattle.std.specs.Prelude.{Some}
-use Rattle.std.proofs.Common.{◌≡◌, ℕ, ◌+◌, ◌-◌, ◌<◌, ◌≤◌, Bool, true, List, length, get_or, set, refl, arith, inl, inr, ◌∙◌}
-use Rattle.std.proofs.Math.ListN.{length-set}
-use Rattle.std.proofs.lemmas.Bool.{cases_eq}
-use Rattle.std.proofs.lemmas.List.{get_or-set_other}
-use Rattle.std.proofs.lemmas.List.Sums.{sum_by-set}
-use Rattle.std.proofs.lemmas.Grind.{get_or-set_at}
+use Rattle.std.proofs.Common.{◌≡◌, ℕ, ◌+◌, ◌-◌, ◌^◌, ◌<◌, ◌≤◌, Bool, true, false, length, refl, arith}
+use Rattle.std.proofs.lemmas.Grind.{common_steps}
+use Rattle.vm_law.specs.declared.context.Ctx.{Ctx}
+use Rattle.vm_law.specs.declared.context.Stop.{Stop}
 use Rattle.vm_law.specs.declared.stage.Owned.{Owned}
 use Rattle.vm_law.specs.declared.stage.Owned.TheVariants.{Idle, Frozen, Running, Sleeping}
+use Rattle.vm_state.specs.declared.cpu.Cpu.{Cpu}
 use Rattle.vm_state.specs.declared.cpu.Seat.{Seat}
 use Rattle.vm_state.specs.declared.run_state.Why.{Why}
-use Rattle.vm_state.specs.Machine.{MachineState, cpu_at}
-use Rattle.vm_state.specs.State.{State, seat_at, empty_seat, next_order, open_grants}
-use Rattle.vm_state.specs.Sound.{IsSoundState, Stays, SeatsFit}
+use Rattle.vm_state.specs.Machine.{cpu_at, with_cpu}
+use Rattle.vm_state.specs.State.{State, seat_at, next_order, with_machine}
+use Rattle.vm_state.specs.Sound.{IsSoundState, IsCpu, Stays, runs}
+use Rattle.vm_state.proofs.Keeps.{keeps_at, grants_set}
+use Rattle.vm_running.specs.Enter.{stopped_at}
 use Rattle.vm_running.specs.Slice.{spent}
-
--- the grants with another seat i
-grants_set : (seats : List Seat) (i : ℕ) (t : Seat) → i < length seats → open_grants (set seats i t) + (get_or seats i empty_seat).left ≡ open_grants seats + t.left
-unfolding open_grants
-grants_set seats i t l = sum_by-set (λ (x : Seat). x.left) seats i t empty_seat l
+use Rattle.vm_running.proofs.Computing.{HasFlags}
 
 -- the run's end is read by the script alone
 pub keeps_ended : (s : State) (why : Why) → IsSoundState s → IsSoundState (record s { ended = Some why })
@@ -42,51 +38,54 @@ keeps_ended s why h = record {
   script = λ none. absurd (cc);
 }
 
+pub keeps_stopped : (s : State) (i : ℕ) (why : Stop) → IsSoundState s → IsSoundState (stopped_at s i why)
+unfolding stopped_at
+keeps_stopped s i why h = keeps_ended s _ h
+
+-- memory is small
+pub ram_small : (s : State) → IsSoundState s → length s.machine.ram.bytes < 2 ^ 64
+ram_small s h = let most = h.machine.ram.size.most in omega arith
+
 -- ---- n instructions were executed
 
-spent_stay : (st : Owned) (halted : Bool) (seat : Seat) (n : ℕ) → Stays st halted seat → Stays st halted (record { left = seat.left - n; stayed = true; ran = seat.ran + n })
-spent_stay Idle halted seat n h = omega arith
-spent_stay (Frozen p) halted seat n h = omega arith
-spent_stay (Running p) halted seat n h = (λ _. refl, λ _. refl)
-spent_stay (Sleeping p) halted seat n h = omega arith
+-- whoever runs is started
+runs_started : (i : ℕ) (cpu : Cpu) (b : Bool) → cpu.started ≡ b → IsCpu i cpu → runs cpu.stage ≡ true → cpu.started ≡ true
+runs_started i cpu true e h goes = e
+runs_started i cpu false e h goes = let still = h.unstarted e in absurd (grind (arith, common_steps))
 
-spent_seats : (m : MachineState) (seats : List Seat) (executed i n : ℕ) → SeatsFit m seats executed → i < length seats
-    → (let seat = get_or seats i empty_seat in SeatsFit m (set seats i (record { left = seat.left - n; stayed = true; ran = seat.ran + n })) (executed + n))
-spent_seats m seats executed i n h within =
-    let seat = get_or seats i empty_seat in
+-- only who runs has instructions left
+left_runs : (st : Owned) (halted : Bool) (seat : Seat) → Stays st halted seat → 1 ≤ seat.left → runs st ≡ true
+left_runs Idle halted seat h some = absurd (omega arith)
+left_runs (Frozen p) halted seat h some = absurd (omega arith)
+left_runs (Running p) halted seat h some = refl
+left_runs (Sleeping p) halted seat h some = absurd (omega arith)
+
+ran_stay : (st : Owned) (halted : Bool) (left ran : ℕ) → runs st ≡ true → Stays st halted (record { left = left; stayed = true; ran = ran })
+ran_stay Idle halted left ran e = absurd (cc)
+ran_stay (Frozen p) halted left ran e = absurd (cc)
+ran_stay (Running p) halted left ran e = (λ _. refl, λ _. refl)
+ran_stay (Sleeping p) halted left ran e = absurd (cc)
+
+-- vCPU i executed n of the instructions that it has left, which led it to another context, and maybe halted it
+pub keeps_executed : (s : State) (i n : ℕ) (c : Ctx) (halted : Bool) → IsSoundState s → i < length s.seats → 1 ≤ n → n ≤ (seat_at s i).left → HasFlags c
+    → IsSoundState (spent (with_machine s (with_cpu s.machine i (record (cpu_at s.machine i) { ctx = c; halted = halted }))) i n)
+unfolding spent
+keeps_executed s i n c halted h within some left flags =
+    let cpu = cpu_at s.machine i in
+    let seat = seat_at s i in
+    let before = h.machine.each_cpu i in
+    let fits = h.seats.each i in
+    let goes : runs cpu.stage ≡ true = left_runs cpu.stage cpu.halted seat fits.stay (omega arith) in
+    let started : cpu.started ≡ true = runs_started i cpu cpu.started refl before goes in
     let next : Seat = record { left = seat.left - n; stayed = true; ran = seat.ran + n } in
-    record {
-      count = length-set seats i next ∙ h.count;
-      each = λ j.
-          elim (cases_eq j i) [
-            | inl same ↦
-                rw (get_or-set_at seats i j next empty_seat same within)
-                (let before = h.each i in let ran = before.ran in
-                rw same (record { owner = before.owner; stay = spent_stay (cpu_at m i).stage (cpu_at m i).halted seat n before.stay; ran = omega arith }))
-            | inr other ↦
-                rw (get_or-set_other seats i j next empty_seat other)
-                (let before = h.each j in let ran = before.ran in record { owner = before.owner; stay = before.stay; ran = omega arith })
-          ];
-    }
-
-pub keeps_spent : (s : State) (i n : ℕ) → IsSoundState s → i < length s.seats → n ≤ (seat_at s i).left → IsSoundState (spent s i n)
-unfolding spent next_order
-keeps_spent s i n h within left =
-    let next : Seat = record { left = (seat_at s i).left - n; stayed = true; ran = (seat_at s i).ran + n } in
-    record {
-      machine = h.machine;
-      seats = spent_seats s.machine s.seats s.executed i n h.seats within;
-      meet = h.meet;
-      images = h.images;
-      counts = record {
-        granted = (let e = grants_set s.seats i next within in let before = h.counts.granted in omega arith);
-        limit = h.counts.limit;
-        seen = (let before = h.counts.seen in omega arith);
-        pages = h.counts.pages;
-        versions = λ page. (let before = h.counts.versions page in omega arith);
-        script = h.counts.script;
-        answers = h.counts.answers;
-      };
-      samples = record { opened = h.samples.opened; asked = h.samples.asked; few = h.samples.few; none = h.samples.none };
-      script = h.script;
-    }
+    let grants = grants_set s.seats i next within in
+    let granted = h.counts.granted in
+    let ran = fits.ran in
+    keeps_at s i (record cpu { ctx = c; halted = halted }) next (s.executed + n) h
+    (record {
+      is_cpu = record { flags = flags; waits = before.waits; unstarted = λ e. absurd (grind (arith, common_steps)); number = before.number };
+      started = λ e. e;
+      timer = λ e. e;
+    })
+    (record { owner = fits.owner; stay = ran_stay cpu.stage halted (seat.left - n) (seat.ran + n) goes; ran = omega arith })
+    (omega arith) (omega arith)

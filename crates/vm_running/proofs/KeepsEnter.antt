@@ -1,46 +1,27 @@
--- What holds of every run is kept by Enter and Slice, given what delivery and local instructions leave of RFLAGS and of
--- memory's size.
+-- What holds of every run is kept by Enter.
 use Rattle.std.specs.Prelude.{Option, Some, None, Result, Ok, Err, if◌then◌else◌}
-use Rattle.std.proofs.Common.{◌≡◌, ℕ, ◌+◌, ◌<◌, ◌≤◌, Bool, true, false, List, length, get_or, set, refl, sym, ap, subst, arith, ◌∙◌}
+use Rattle.std.proofs.Common.{◌≡◌, ℕ, ◌+◌, ◌<◌, ◌≤◌, Bool, true, false, length, get_or, set, refl, sym, ap, subst, arith, ◌∙◌}
 use Rattle.std.proofs.lemmas.Bool.{and_parts}
 use Rattle.std.proofs.lemmas.Bool.Decides.{nat_tests}
 use Rattle.std.proofs.lemmas.List.{get_or-set_same, length-set}
 use Rattle.std.proofs.lemmas.Grind.{common_steps}
-use Rattle.vm_law.specs.Memory.{Memory, KeepsSize}
 use Rattle.vm_law.specs.declared.context.Ctx.{Ctx}
 use Rattle.vm_law.specs.declared.context.Stop.{Stop}
 use Rattle.vm_law.specs.declared.stage.Owned.{Owned}
 use Rattle.vm_law.specs.declared.stage.Owned.TheVariants.{Idle, Frozen, Running, Sleeping}
 use Rattle.vm_lapic.specs.Apic.{ready, serviced}
-use Rattle.x86_fetch.specs.Slices.{stepped_by}
-use Rattle.x86_op.specs.Flow.{masked_flags}
 use Rattle.x86_trap.specs.Delivery.{delivered, Delivered}
 use Rattle.vm_state.specs.declared.cpu.Cpu.{Cpu}
 use Rattle.vm_state.specs.declared.cpu.Seat.{Seat}
-use Rattle.vm_state.specs.Machine.{MachineState, cpu_at, cpu_count, code_of, with_ctx, unstarted_cpu, takes_nmi, takes_vector}
+use Rattle.vm_state.specs.Machine.{MachineState, cpu_at, cpu_count, with_ctx, unstarted_cpu, takes_nmi, takes_vector}
 use Rattle.vm_state.specs.State.{State, seat_at, open_grants, with_machine}
 use Rattle.vm_state.specs.Sound.{IsSoundState, IsOwner, Stays}
 use Rattle.vm_state.proofs.Keeps.{Continues, keeps_at, keeps_cpu, grants_set}
 use Rattle.vm_devices.proofs.KeptMemory.{keeps_run_memory}
-use Rattle.vm_running.specs.Enter.{may_enter, entered, taken, settled, delivered_in, nmi_taken, vector_taken, interrupt_taken, after_enter, stopped_at}
-use Rattle.vm_running.specs.Slice.{has_slice, may_slice, after_slice}
-use Rattle.vm_running.proofs.Keeps.{keeps_ended, keeps_spent}
-
--- RFLAGS has only the bits that are built
-abbrev pub HasFlags : Ctx → Type 0
-HasFlags c = masked_flags c.rflags ≡ c.rflags
-
--- a delivery leaves RFLAGS so, and memory its size
-pub record DeliveryFits (c : Ctx) (mem : Memory) (d : Delivered) : Type 0 where
-  pub flags : HasFlags d.ctx
-  pub size : KeepsSize mem d.memory
-
-abbrev pub DeliveriesFit : Type 0
-DeliveriesFit = (c : Ctx) (mem : Memory) (v : ℕ) (error : Option ℕ) (nmi : Bool) → HasFlags c → DeliveryFits c mem (delivered c mem v error nmi)
-
--- local instructions leave RFLAGS so
-abbrev pub LocalsFit : Type 0
-LocalsFit = (code : List ℕ) (c : Ctx) (n : ℕ) → HasFlags c → HasFlags (stepped_by code c n)
+use Rattle.vm_running.specs.Enter.{may_enter, entered, taken, settled, delivered_in, nmi_taken, vector_taken, interrupt_taken, after_enter}
+use Rattle.vm_running.proofs.Computing.{HasFlags}
+use Rattle.vm_running.proofs.Fitting.{DeliveryFits, delivery_fits}
+use Rattle.vm_running.proofs.Keeps.{keeps_stopped, ram_small}
 
 -- ---- a stay begins
 
@@ -127,28 +108,24 @@ keeps_ctx s i c h started flags =
     })
     refl refl
 
-pub keeps_stopped : (s : State) (i : ℕ) (why : Stop) → IsSoundState s → IsSoundState (stopped_at s i why)
-unfolding stopped_at
-keeps_stopped s i why h = keeps_ended s _ h
-
 settled_fits : (s : State) (i : ℕ) (d : Delivered) (r : Result (Unit {0}) Stop) → IsSoundState s → (cpu_at s.machine i).started ≡ true → DeliveryFits (cpu_at s.machine i).ctx s.machine.ram d
     → IsSoundState (settled s i d r)
 unfolding settled
 settled_fits s i d (Ok u) h started fits = keeps_run_memory (with_machine s (with_ctx s.machine i d.ctx)) d.memory (keeps_ctx s i d.ctx h started fits.flags) fits.size
 settled_fits s i d (Err why) h started fits = keeps_stopped s i why h
 
-pub keeps_delivered : DeliveriesFit → (s : State) (i v : ℕ) (nmi : Bool) → IsSoundState s → (cpu_at s.machine i).started ≡ true → IsSoundState (delivered_in s i v nmi)
-keeps_delivered fit s i v nmi h started =
+pub keeps_delivered : (s : State) (i v : ℕ) (nmi : Bool) → IsSoundState s → (cpu_at s.machine i).started ≡ true → IsSoundState (delivered_in s i v nmi)
+keeps_delivered s i v nmi h started =
     let d = delivered (cpu_at s.machine i).ctx s.machine.ram v None nmi in
-    settled_fits s i d d.answer h started (fit (cpu_at s.machine i).ctx s.machine.ram v None nmi (h.machine.each_cpu i).flags)
+    settled_fits s i d d.answer h started (delivery_fits (cpu_at s.machine i).ctx s.machine.ram v None nmi (ram_small s h) (h.machine.each_cpu i).flags)
 
 -- another vCPU i that is started as this one
 started_with : (m : MachineState) (i : ℕ) (c : Cpu) → i < cpu_count m → c.started ≡ true → (get_or (set m.cpus i c) i (unstarted_cpu i)).started ≡ true
 started_with m i c within started = ap (λ (x : Cpu). x.started) (get_or-set_same m.cpus i c (unstarted_cpu i) within) ∙ started
 
-nmi_kept : DeliveriesFit → (s : State) (i : ℕ) → IsSoundState s → i < cpu_count s.machine → (cpu_at s.machine i).started ≡ true → IsSoundState (nmi_taken s i)
+nmi_kept : (s : State) (i : ℕ) → IsSoundState s → i < cpu_count s.machine → (cpu_at s.machine i).started ≡ true → IsSoundState (nmi_taken s i)
 unfolding nmi_taken
-nmi_kept fit s i h within started =
+nmi_kept s i h within started =
     let cpu : Cpu = record (cpu_at s.machine i) { nmi = false } in
     let before = h.machine.each_cpu i in
     let fits : Continues i (cpu_at s.machine i) cpu = record {
@@ -156,12 +133,12 @@ nmi_kept fit s i h within started =
       started = λ e. e;
       timer = λ e. e;
     } in
-    keeps_delivered fit (taken s i cpu) i 2 true (keeps_taken s i cpu h within fits refl refl) (started_with s.machine i cpu within started)
+    keeps_delivered (taken s i cpu) i 2 true (keeps_taken s i cpu h within fits refl refl) (started_with s.machine i cpu within started)
 
-vector_kept : DeliveriesFit → (s : State) (i : ℕ) (o : Option ℕ) → IsSoundState s → i < cpu_count s.machine → (cpu_at s.machine i).started ≡ true → IsSoundState (vector_taken s i o)
+vector_kept : (s : State) (i : ℕ) (o : Option ℕ) → IsSoundState s → i < cpu_count s.machine → (cpu_at s.machine i).started ≡ true → IsSoundState (vector_taken s i o)
 unfolding vector_taken serviced
-vector_kept fit s i None h within started = h
-vector_kept fit s i (Some v) h within started =
+vector_kept s i None h within started = h
+vector_kept s i (Some v) h within started =
     let cpu : Cpu = record (cpu_at s.machine i) { lapic = serviced (cpu_at s.machine i).lapic v } in
     let before = h.machine.each_cpu i in
     let fits : Continues i (cpu_at s.machine i) cpu = record {
@@ -169,49 +146,28 @@ vector_kept fit s i (Some v) h within started =
       started = λ e. e;
       timer = λ e. e;
     } in
-    keeps_delivered fit (taken s i cpu) i v false (keeps_taken s i cpu h within fits refl refl) (started_with s.machine i cpu within started)
+    keeps_delivered (taken s i cpu) i v false (keeps_taken s i cpu h within fits refl refl) (started_with s.machine i cpu within started)
 
-vector_if : DeliveriesFit → (s : State) (i : ℕ) (b : Bool) → IsSoundState s → i < cpu_count s.machine → (cpu_at s.machine i).started ≡ true
+vector_if : (s : State) (i : ℕ) (b : Bool) → IsSoundState s → i < cpu_count s.machine → (cpu_at s.machine i).started ≡ true
     → IsSoundState (if b then vector_taken s i (ready (cpu_at s.machine i).lapic) else s)
-vector_if fit s i true h within started = vector_kept fit s i (ready (cpu_at s.machine i).lapic) h within started
-vector_if fit s i false h within started = h
+vector_if s i true h within started = vector_kept s i (ready (cpu_at s.machine i).lapic) h within started
+vector_if s i false h within started = h
 
-nmi_if : DeliveriesFit → (s : State) (i : ℕ) (a b : Bool) → IsSoundState s → i < cpu_count s.machine → (cpu_at s.machine i).started ≡ true
+nmi_if : (s : State) (i : ℕ) (a b : Bool) → IsSoundState s → i < cpu_count s.machine → (cpu_at s.machine i).started ≡ true
     → IsSoundState (if a then nmi_taken s i else if b then vector_taken s i (ready (cpu_at s.machine i).lapic) else s)
-nmi_if fit s i true b h within started = nmi_kept fit s i h within started
-nmi_if fit s i false b h within started = vector_if fit s i b h within started
+nmi_if s i true b h within started = nmi_kept s i h within started
+nmi_if s i false b h within started = vector_if s i b h within started
 
-interrupt_kept : DeliveriesFit → (s : State) (i : ℕ) → IsSoundState s → i < cpu_count s.machine → (cpu_at s.machine i).started ≡ true → IsSoundState (interrupt_taken s i)
+interrupt_kept : (s : State) (i : ℕ) → IsSoundState s → i < cpu_count s.machine → (cpu_at s.machine i).started ≡ true → IsSoundState (interrupt_taken s i)
 unfolding interrupt_taken
-interrupt_kept fit s i h within started = nmi_if fit s i (takes_nmi (cpu_at s.machine i)) (takes_vector (cpu_at s.machine i)) h within started
+interrupt_kept s i h within started = nmi_if s i (takes_nmi (cpu_at s.machine i)) (takes_vector (cpu_at s.machine i)) h within started
 
 still_there : (m : MachineState) (i : ℕ) (c : Cpu) → i < cpu_count m → i < length (set m.cpus i c)
 still_there m i c within = subst (λ (n : ℕ). i < n) (sym (length-set m.cpus i c)) within
 
-pub keeps_enter : DeliveriesFit → (s : State) (p i grant : ℕ) → IsSoundState s → may_enter s p i grant ≡ true → IsSoundState (after_enter s p i grant)
+pub keeps_enter : (s : State) (p i grant : ℕ) → IsSoundState s → may_enter s p i grant ≡ true → IsSoundState (after_enter s p i grant)
 unfolding after_enter entered
-keeps_enter fit s p i grant h m =
+keeps_enter s p i grant h m =
     let cpu : Cpu = record (cpu_at s.machine i) { stage = Running p; halted = false } in
     let within = enter_within s p i grant m in
-    interrupt_kept fit (entered s p i grant) i (keeps_entered s p i grant h m) (still_there s.machine i cpu within) (started_with s.machine i cpu within (enter_started s p i grant m))
-
--- ---- Slice
-
-slice_within : (s : State) (p i n : ℕ) → may_slice s p i n ≡ true → i < cpu_count s.machine
-unfolding may_slice has_slice
-slice_within s p i n m = grind (arith, nat_tests, common_steps, and_parts)
-
-slice_left : (s : State) (p i n : ℕ) → may_slice s p i n ≡ true → n ≤ (seat_at s i).left
-unfolding may_slice has_slice
-slice_left s p i n m = grind (arith, nat_tests, common_steps, and_parts)
-
--- whoever runs is started
-pub keeps_slice : LocalsFit → (s : State) (p i n : ℕ) → IsSoundState s → (cpu_at s.machine i).started ≡ true → may_slice s p i n ≡ true → IsSoundState (after_slice s i n)
-unfolding after_slice
-keeps_slice fit s p i n h started m =
-    let c = stepped_by (code_of s.machine) (cpu_at s.machine i).ctx n in
-    let within = slice_within s p i n m in
-    let long = h.seats.count in
-    keeps_spent (with_machine s (with_ctx s.machine i c)) i n
-    (keeps_ctx s i c h started (fit (code_of s.machine) (cpu_at s.machine i).ctx n (h.machine.each_cpu i).flags))
-    (omega arith) (slice_left s p i n m)
+    interrupt_kept (entered s p i grant) i (keeps_entered s p i grant h m) (still_there s.machine i cpu within) (started_with s.machine i cpu within (enter_started s p i grant m))

@@ -2,5 +2,10 @@ pub mod Told
 pub mod Sharing
 pub mod Spends
 pub mod Ahead
+pub mod Flags
+pub mod Computing
+pub mod Fitting
 pub mod Keeps
 pub mod KeepsEnter
+pub mod KeepsSlice
+pub mod KeepsStep

@@ -37,16 +37,22 @@ use Rattle.vm_state.specs.State.{State, empty_seat, next_order, no_image, open_g
 
 -- ---- a machine
 
--- flags that a vCPU which isn't started doesn't have
-abbrev pub runs_flags : Cpu → Bool
-runs_flags cpu = cpu.halted || cpu.ctx.shadow || cpu.ctx.nmi_block
+abbrev pub runs : Owned → Bool
+runs Idle = false
+runs (Frozen p) = false
+runs (Running p) = true
+runs (Sleeping p) = false
 
--- vCPU i: RFLAGS has only the bits that are built, a start-up waits only for one that isn't started, which is neither
--- halted nor has it run; and its APIC has its number
+-- what a vCPU that isn't started hasn't: it runs no guest code, and none has left it halted, in a shadow or in an NMI
+abbrev pub has_run : Cpu → Bool
+has_run cpu = cpu.halted || cpu.ctx.shadow || cpu.ctx.nmi_block || runs cpu.stage
+
+-- vCPU i: RFLAGS has only the bits that are built, a start-up waits only for one that isn't started, which hasn't run; and
+-- its APIC has its number
 pub record IsCpu (i : ℕ) (cpu : Cpu) : Type 0 where
   pub flags : masked_flags cpu.ctx.rflags ≡ cpu.ctx.rflags
   pub waits : (is_some cpu.startup && cpu.started) ≡ false
-  pub unstarted : cpu.started ≡ false → runs_flags cpu ≡ false
+  pub unstarted : cpu.started ≡ false → has_run cpu ≡ false
   pub number : cpu.lapic.cpu ≡ i
 
 -- a timer is disarmed where its initial count is 0, and where there is no vCPU
