@@ -1,0 +1,4 @@
+pub mod Keeps
+pub mod Firsts
+pub mod PlanParts
+pub mod Plan
