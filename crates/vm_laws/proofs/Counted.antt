@@ -31,6 +31,7 @@ use Rattle.vm_state.specs.State.{State}
 use Rattle.vm_state.proofs.Sound.{boot_is_sound}
 use Rattle.vm_devices.specs.Windows.{with_window}
 use Rattle.vm_disks.specs.Queueing.{may_pull, queue_with, pulled_in, after_pull}
+use Rattle.vm_table.proofs.Keeps.{after_keeps as keeps}
 use Rattle.vm_table.specs.History.{after_all, is_lawful_all, IsLegal, last_state}
 use Rattle.vm_table.specs.Table.{allowed, lawful, effect, counted, after}
 use Rattle.vm_laws.specs.Counting.{count_of, one_if}
@@ -42,7 +43,6 @@ use Rattle.vm_laws.proofs.Cutting.{boot_is}
 use Rattle.vm_laws.proofs.Queues.{id_below}
 use Rattle.vm_laws.proofs.Serving.{known, drive_case, at_drives, pull_tells, after_step_of}
 use Rattle.vm_laws.proofs.Units.{after_unit}
-use Rattle.vm_laws.proofs.Sounding.{Keeps}
 
 abbrev named : ℕ → Unfinished → Bool
 named id x = x.id == id
@@ -114,7 +114,7 @@ not_if false h = refl
 
 -- ---- histories
 
-module _ (keeps : Keeps) (d id : ℕ) where
+module _ (d id : ℕ) where
   abbrev moved_at : State → ℕ
   moved_at s = moved_in (request_of (queue_of s.machine d) id)
 
@@ -201,9 +201,9 @@ origin_moved start (Saved m) d id f = saved_moved m.state d id f.at_rest
 boot_moved : (start : start_type.Start) (d id : ℕ) → IsSound start → moved_in (request_of (queue_of (boot start).machine d) id) ≡ 0
 boot_moved start d id h = ap (λ m. moved_in (request_of (queue_of m d) id)) (boot_is start) ∙ origin_moved start start.origin d id h.origin
 
-pub units_counted : Keeps → (start : start_type.Start) (history : List Signed) (d id : ℕ) → IsSound start → IsLegal start history
+pub units_counted : (start : start_type.Start) (history : List Signed) (d id : ℕ) → IsSound start → IsLegal start history
     → has_request (queue_of (last_state start history).machine d) id ≡ true
     → moved_in (request_of (queue_of (last_state start history).machine d) id) ≡ count_of (λ s x. is_unit_of d id x.entry) (boot start) history
-units_counted keeps start history d id sound legal g =
-    let r = counted_from keeps d id (boot start) history 0 (boot_is_sound start sound) legal (λ y. boot_moved start d id sound) (λ l. refl) g in
+units_counted start history d id sound legal g =
+    let r = counted_from d id (boot start) history 0 (boot_is_sound start sound) legal (λ y. boot_moved start d id sound) (λ l. refl) g in
     omega (arith, r)

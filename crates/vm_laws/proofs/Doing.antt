@@ -12,6 +12,7 @@ use Rattle.vm_state.specs.Sound.{IsSoundState}
 use Rattle.vm_state.specs.Start.{IsSound, boot}
 use Rattle.vm_state.specs.State.{State}
 use Rattle.vm_state.proofs.Sound.{boot_is_sound}
+use Rattle.vm_table.proofs.Keeps.{after_keeps as keeps}
 use Rattle.vm_table.specs.History.{after_all, is_lawful_all, IsLegal}
 use Rattle.vm_table.specs.Table.{lawful, after}
 use Rattle.vm_laws.specs.Counting.{count_of, one_if}
@@ -20,7 +21,6 @@ use Rattle.vm_laws.specs.Requests.{queue_of, takes_in, accepts, accepts_as, canc
 use Rattle.vm_laws.proofs.Lists.{clash}
 use Rattle.vm_laws.proofs.Queues.{QueueStep, waits, test_has, id_below}
 use Rattle.vm_laws.proofs.Serving.{known, after_step_of}
-use Rattle.vm_laws.proofs.Sounding.{Keeps}
 
 -- ---- one entry
 
@@ -89,7 +89,7 @@ step_at s x d id h m = after_step_of s x d id (known s h) m
 queue_at : (s : State) (d : ℕ) → IsSoundState s → IsQueue (queue_of s.machine d)
 queue_at s d h = (known s h).queues d
 
-module _ (keeps : Keeps) (d id : ℕ) where
+module _ (d id : ℕ) where
   -- ---- ids follow each other
 
   follow : (s : State) (xs : List Signed) → IsSoundState s → is_lawful_all s xs ≡ true → (queue_of (after_all s xs).machine d).next ≡ (queue_of s.machine d).next + count_of (accepts d) s xs
@@ -271,12 +271,12 @@ module _ (keeps : Keeps) (d id : ℕ) where
       ]
 
 -- requests are done once
-pub done_once : Keeps → (start : start_type.Start) (history : List Signed) (d id : ℕ) → IsSound start → IsLegal start history → IsDoneOnce start history d id
-done_once keeps start history d id sound legal =
+pub done_once : (start : start_type.Start) (history : List Signed) (d id : ℕ) → IsSound start → IsLegal start history → IsDoneOnce start history d id
+done_once start history d id sound legal =
     let h = boot_is_sound start sound in
     record {
-      follow = follow keeps d id (boot start) history h legal;
-      known = known_once keeps d id (boot start) history h legal;
-      balance = all_balance keeps d id (boot start) history h legal;
-      untouched = untouched keeps d id (boot start) history h legal;
+      follow = follow d id (boot start) history h legal;
+      known = known_once d id (boot start) history h legal;
+      balance = all_balance d id (boot start) history h legal;
+      untouched = untouched d id (boot start) history h legal;
     }

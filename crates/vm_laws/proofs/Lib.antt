@@ -28,4 +28,13 @@ pub mod Holding
 pub mod Lending
 pub mod Units
 pub mod Counted
-pub mod Keeping
+pub mod Framed
+pub mod Touching
+pub mod Shortness
+pub mod Telling
+pub mod Working
+pub mod Pages
+pub mod Laws
+pub mod Looking
+pub mod Starters
+pub mod Leasing

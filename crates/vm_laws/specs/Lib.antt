@@ -9,3 +9,4 @@ pub mod Owned
 pub mod Timers
 pub mod Ending
 pub mod Waiting
+pub mod Laws

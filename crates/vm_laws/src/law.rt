@@ -1,10 +1,11 @@
 //! What holds of every history of the machine, and of every state that a run can reach.
 ghost use Rattle.vm_laws.specs.Cuts.{CutsAreAtRest, SavedMachinesGoOn};
 ghost use Rattle.vm_laws.specs.Ending.{EachEntryBringsClose};
+ghost use Rattle.vm_laws.specs.Laws.{LawsHold};
 ghost use Rattle.vm_laws.specs.Meetings.{MeetingsExclude};
-ghost use Rattle.vm_laws.specs.Owned.{ImagesAreOwned, VcpusAreOwned};
-ghost use Rattle.vm_laws.specs.Requests.{DisksChangeByHold, FinishedRequestsAreWhole};
-ghost use Rattle.vm_laws.specs.Stuck.{SoundStatesGoOn};
+ghost use Rattle.vm_laws.specs.Owned.{ImagesAreOwned, PagesHaveVersions, VcpusAreOwned};
+ghost use Rattle.vm_laws.specs.Requests.{DisksChangeByHold, FinishedRequestsAreWhole, RequestsAreDoneOnce, UnitsAreCounted};
+ghost use Rattle.vm_laws.specs.Stuck.{NoStateIsStuck, SoundStatesGoOn};
 ghost use Rattle.vm_laws.specs.Timers.{FiringsPost, OneShotsFireOnce, TimersRunDown};
 ghost use Rattle.vm_laws.specs.Vectors.{VectorsBalance};
 ghost use Rattle.vm_laws.specs.Waiting.{ControlPicksTheEnd, EarlyEntriesRunOut, OthersLeaveTheEnd};
@@ -12,6 +13,11 @@ ghost use Rattle.vm_laws.specs.Waiting.{ControlPicksTheEnd, EarlyEntriesRunOut, 
 /// A run that isn't closed can go on.
 pub fn sound_states_go_on()
     ensures { SoundStatesGoOn }
+{}
+
+/// After each legal history from a sound start a run that isn't closed can go on.
+pub fn no_state_is_stuck()
+    ensures { NoStateIsStuck }
 {}
 
 /// Once a run has ended each lawful entry brings Close nearer.
@@ -64,6 +70,16 @@ pub fn finished_requests_are_whole()
     ensures { FinishedRequestsAreWhole }
 {}
 
+/// Each block request is completed once, or was cancelled untouched, or is unfinished still.
+pub fn requests_are_done_once()
+    ensures { RequestsAreDoneOnce }
+{}
+
+/// So many units of an unfinished request are moved as entries moved one.
+pub fn units_are_counted()
+    ensures { UnitsAreCounted }
+{}
+
 /// While a pass has a vCPU, entries of other passes leave it.
 pub fn vcpus_are_owned()
     ensures { VcpusAreOwned }
@@ -72,6 +88,11 @@ pub fn vcpus_are_owned()
 /// While a pass holds the image of a disk, entries of other passes leave it, the disk and the request.
 pub fn images_are_owned()
     ensures { ImagesAreOwned }
+{}
+
+/// A page of the code that has the same version at two places of a history has the same bytes.
+pub fn pages_have_versions()
+    ensures { PagesHaveVersions }
 {}
 
 /// A timer fires at the first Tick that reaches what is left of it.
@@ -87,4 +108,9 @@ pub fn one_shots_fire_once()
 /// A firing requests the timer's vector, where a post of it is accepted.
 pub fn firings_post()
     ensures { FiringsPost }
+{}
+
+/// All the laws of a history hold of each one that is legal and begins at a sound start.
+pub fn laws_hold()
+    ensures { LawsHold }
 {}

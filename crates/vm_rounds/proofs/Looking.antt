@@ -1,0 +1,169 @@
+-- What a runner ran ahead goes by the pages that it looked at alone.
+use Rattle.std.specs.Prelude.{◌&&◌, nat_lt, if◌then◌else◌, min}
+use Rattle.std.specs.List.{flat_map, list_all, range_with_len}
+use Rattle.std.proofs.Common.{◌≡◌, ◌⊎◌, ℕ, zero, suc, ◌+◌, ◌-◌, ◌*◌, ◌/◌, ◌%◌, ◌<◌, ◌≤◌, Bool, true, false, List, [], ◌∷◌, length, drop, get_or, refl, sym, ap, subst, ◌∙◌, inl, inr, arith}
+use Rattle.std.proofs.lemmas.Bool.{cases_lt, and_parts, true≢false, lt-ltb}
+use Rattle.std.proofs.lemmas.List.{ext_get_or, get_or_past, get_or-take, get_or-drop, length-take, length-drop}
+use Rattle.std.proofs.lemmas.List.Folds.{list_all-append}
+use Rattle.vm_law.specs.declared.context.Ctx.{Ctx}
+use Rattle.x86_fetch.specs.Fetching.{is_local_next, fetched, next_decoded, next_of}
+use Rattle.x86_fetch.specs.Slices.{after_next, all_local, most_local, stands_local, stepped, stepped_by}
+use Rattle.x86_decode.specs.Reading.{decoded}
+use Rattle.vm_table.specs.Rounds.{fetched_from, looked_at, pages_looked}
+use Rattle.vm_laws.proofs.Touching.{page_in}
+
+-- the code now has a page as it was
+abbrev Same : List ℕ → List ℕ → ℕ → Type 0
+Same old now page = page_in now page ≡ page_in old page
+
+byte_in : (code : List ℕ) (j : ℕ) → get_or (page_in code (j / 4096)) (j % 4096) 0 ≡ get_or code j 0
+byte_in code j =
+    let k = j / 4096 in
+    let there : 4096 * k + j % 4096 ≡ j = omega arith in
+    get_or-take 4096 (drop (4096 * k) code) (j % 4096) 0 (omega arith) ∙ get_or-drop (4096 * k) code (j % 4096) 0 ∙ ap (λ (i : ℕ). get_or code i 0) there
+
+same_byte : (old now : List ℕ) (j : ℕ) → Same old now (j / 4096) → get_or now j 0 ≡ get_or old j 0
+same_byte old now j h = sym (byte_in now j) ∙ ap (λ (xs : List ℕ). get_or xs (j % 4096) 0) h ∙ byte_in old j
+
+-- a byte that is fetched is in one of the two pages
+two : (at size j : ℕ) → at < size → at ≤ j → j < at + 15 → j < size → (j / 4096 ≡ at / 4096) ⊎ (j / 4096 ≡ (min (at + 15) size - 1) / 4096)
+two at size j l low high inside =
+    elim (cases_lt (j / 4096) (at / 4096 + 1)) [
+      | inl here ↦ inl (omega arith)
+      | inr there ↦ inr (omega arith)
+    ]
+
+abbrev BothSame : List ℕ → List ℕ → ℕ → Type 0
+BothSame old now at = Same old now (at / 4096) × Same old now ((min (at + 15) (length old) - 1) / 4096)
+
+fetched_byte : (old now : List ℕ) (at j : ℕ) → length now ≡ length old → at < length old → BothSame old now at → at ≤ j → j < at + 15 → get_or now j 0 ≡ get_or old j 0
+fetched_byte old now at j size l h low high =
+    elim (cases_lt j (length old)) [
+      | inl inside ↦ (elim (two at (length old) j l low high inside) [
+        | inl a ↦ same_byte old now j (subst (λ (k : ℕ). Same old now k) (sym a) h.0)
+        | inr b ↦ same_byte old now j (subst (λ (k : ℕ). Same old now k) (sym b) h.1)
+      ])
+      | inr past ↦ get_or_past now j 0 (omega (arith, size, past)) ∙ sym (get_or_past old j 0 past)
+    ]
+
+fetched_same : (old now : List ℕ) (at : ℕ) → length now ≡ length old → (at < length old → BothSame old now at) → fetched now at ≡ fetched old at
+fetched_same old now at size h =
+    let l : length (fetched now at) ≡ length (fetched old at) =
+    omega (arith, length-take 15 (drop at now), length-take 15 (drop at old), length-drop at now, length-drop at old) in
+    ext_get_or 0 (fetched now at) (fetched old at) l (λ i lt.
+    let less : i < 15 = omega (arith, length-take 15 (drop at now)) in
+    let inside : at < length old = omega (arith, length-take 15 (drop at now), length-drop at now) in
+    get_or-take 15 (drop at now) i 0 less ∙ get_or-drop at now i 0 ∙ fetched_byte old now at (at + i) size inside (h inside) (omega arith) (omega arith)
+    ∙ sym (get_or-drop at old i 0) ∙ sym (get_or-take 15 (drop at old) i 0 less))
+
+-- ---- what was looked at
+
+-- each page passes a test that tells it is the same
+module _ (old now : List ℕ) (P : ℕ → Bool) (tells : (page : ℕ) → P page ≡ true → Same old now page) (size : length now ≡ length old) (c : Ctx) where
+  at_if : (at : ℕ) (b : Bool) → nat_lt at (length old) ≡ b → list_all P (if b then (at / 4096) ∷ ((min (at + 15) (length old) - 1) / 4096) ∷ [] else []) ≡ true → at < length old → BothSame old now at
+  at_if at true e h l =
+      let a = and_parts (P (at / 4096)) _ h in
+      let b = and_parts (P ((min (at + 15) (length old) - 1) / 4096)) _ a.1 in
+      (tells _ a.0, tells _ b.0)
+  at_if at false e h l = absurd (true≢false (sym (lt-ltb at (length old) l) ∙ e))
+
+  next_same : (d : Ctx) → list_all P (fetched_from (length old) d.rip) ≡ true → next_of now d ≡ next_of old d
+  unfolding next_of
+  next_same d h = ap (λ (bytes : List ℕ). next_decoded d (decoded bytes)) (fetched_same old now d.rip size (λ l. at_if d.rip _ refl h l))
+
+  each_at : (a n k : ℕ) → list_all P (flat_map (looked_at old c) (range_with_len a n)) ≡ true → a ≤ k → k < a + n → list_all P (looked_at old c k) ≡ true
+  each_at a zero k h low high = absurd (omega arith)
+  each_at a (suc n) k h low high =
+      let t = and_parts (list_all P (looked_at old c a)) _ (sym (list_all-append P (looked_at old c a) (flat_map (looked_at old c) (range_with_len (a + 1) n))) ∙ h) in
+      elim (cases_lt a k) [
+        | inl less ↦ each_at (a + 1) n k t.1 (omega arith) (omega arith)
+        | inr more ↦ (let e : a ≡ k = omega arith in subst (λ (j : ℕ). list_all P (looked_at old c j) ≡ true) e t.0)
+      ]
+
+  -- so far as each fetch was looked at
+  stepped_same : (k : ℕ) → ((j : ℕ) → j < k → list_all P (looked_at old c j) ≡ true) → stepped_by now c k ≡ stepped_by old c k
+  unfolding stepped
+  stepped_same zero h = refl
+  stepped_same (suc k) h =
+      let before = stepped_same k (λ j l. h j (omega (arith, l))) in
+      ap (λ (d : Ctx). after_next d (next_of now d)) before ∙ ap (λ x. after_next (stepped_by old c k) x) (next_same (stepped_by old c k) (h k (omega arith)))
+
+  local_same : (k : ℕ) → ((j : ℕ) → j < k → list_all P (looked_at old c j) ≡ true) → all_local now c k ≡ all_local old c k
+  unfolding stands_local
+  local_same zero h = refl
+  local_same (suc k) h =
+      let before = local_same k (λ j l. h j (omega (arith, l))) in
+      let steps = stepped_same k (λ j l. h j (omega (arith, l))) in
+      let last : stands_local now (stepped_by now c k) ≡ stands_local old (stepped_by old c k) = ap (λ (d : Ctx). stands_local now d) steps ∙ ap (λ x. is_local_next x) (next_same (stepped_by old c k) (h k (omega arith))) in
+      ap (λ b. b && stands_local now (stepped_by now c k)) before ∙ ap (λ b. all_local old c k && b) last
+
+-- what was local over the old code is local over the new one
+pub still_local : (old now : List ℕ) (P : ℕ → Bool) → ((page : ℕ) → P page ≡ true → page_in now page ≡ page_in old page) → length now ≡ length old → (c : Ctx) (n granted : ℕ) → n ≤ granted
+    → list_all P (pages_looked old c n granted) ≡ true → all_local old c n ≡ true → all_local now c n ≡ true
+still_local old now P tells size c n granted few h local =
+    local_same old now P tells size c n (λ j l. each_at old now P tells size c 0 (min (n + 1) granted) j h (omega arith) (omega (arith, l, few))) ∙ local
+
+-- the most that are local are local, and no more than were asked for
+pub most_fits : (code : List ℕ) (c : Ctx) (n : ℕ) → (all_local code c (most_local code c n) ≡ true) × (most_local code c n ≤ n)
+most_fits code c zero = (refl, omega arith)
+most_fits code c (suc n) =
+    let rest = most_fits code c n in
+    most_if (all_local code c (suc n)) refl rest
+  where
+    most_if : (b : Bool) → all_local code c (suc n) ≡ b → (all_local code c (most_local code c n) ≡ true) × (most_local code c n ≤ n)
+        → (all_local code c (if b then suc n else most_local code c n) ≡ true) × ((if b then suc n else most_local code c n) ≤ suc n)
+    most_if true e rest = (e, omega arith)
+    most_if false e rest = (rest.0, omega (arith, rest.1))
+
+-- one that isn't local makes all longer ones fail
+fails_on : (code : List ℕ) (c : Ctx) (n m : ℕ) → n ≤ m → all_local code c n ≡ false → all_local code c m ≡ false
+fails_on code c n zero l h = let e : n ≡ 0 = omega (arith, l) in ap (λ (k : ℕ). all_local code c k) (sym e) ∙ h
+fails_on code c n (suc m) l h =
+    elim (cases_lt m n) [
+      | inl last ↦ (let e : n ≡ suc m = omega (arith, l, last) in ap (λ (k : ℕ). all_local code c k) (sym e) ∙ h)
+      | inr more ↦ ap (λ b. b && stands_local code (stepped_by code c m)) (fails_on code c n m more h)
+    ]
+
+-- so many are the most: they are local, and one more isn't, unless no more were asked for
+most_is : (code : List ℕ) (c : Ctx) (n r : ℕ) → r ≤ n → all_local code c r ≡ true → (r < n → all_local code c (suc r) ≡ false) → most_local code c n ≡ r
+most_is code c zero r l h f = omega (arith, l)
+most_is code c (suc n) r l h f =
+    elim (cases_lt r (suc n)) [
+      | inr last ↦ (let e : suc n ≡ r = omega (arith, l, last) in ap (λ b. if b then suc n else most_local code c n) (ap (λ (m : ℕ). all_local code c m) e ∙ h) ∙ e)
+      | inl less ↦
+          let over : all_local code c (suc n) ≡ false = fails_on code c (suc r) (suc n) (omega (arith, less)) (f less) in
+          ap (λ b. if b then suc n else most_local code c n) over ∙ most_is code c n r (omega (arith, less)) h (λ m. f less)
+    ]
+
+most_over : (code : List ℕ) (c : Ctx) (n : ℕ) → most_local code c n < n → all_local code c (suc (most_local code c n)) ≡ false
+most_over code c zero l = absurd (omega (arith, l))
+most_over code c (suc n) l = over_if (all_local code c (suc n)) refl (λ m. most_over code c n m) l
+  where
+    over_if : (b : Bool) → all_local code c (suc n) ≡ b → (most_local code c n < n → all_local code c (suc (most_local code c n)) ≡ false) → (if b then suc n else most_local code c n) < suc n
+        → all_local code c (suc (if b then suc n else most_local code c n)) ≡ false
+    over_if true e rest l = absurd (omega (arith, l))
+    over_if false e rest l = elim (cases_lt (most_local code c n) n) [
+      | inl a ↦ rest a
+      | inr b ↦ (let most = (most_fits code c n).1 in let same : most_local code c n ≡ n = omega (arith, most, b) in subst (λ (k : ℕ). all_local code c (suc k) ≡ false) (sym same) e)
+    ]
+
+-- the most over the old code are the most over the new one
+pub most_same : (old now : List ℕ) (P : ℕ → Bool) → ((page : ℕ) → P page ≡ true → page_in now page ≡ page_in old page) → length now ≡ length old → (c : Ctx) (n granted : ℕ) → n ≡ most_local old c granted
+    → list_all P (pages_looked old c n granted) ≡ true → n ≡ most_local now c granted
+most_same old now P tells size c n granted most h =
+    let fits = most_fits old c granted in
+    let few : n ≤ granted = (let a = fits.1 in omega (arith, a, most)) in
+    let local : all_local old c n ≡ true = ap (λ (k : ℕ). all_local old c k) most ∙ fits.0 in
+    sym (most_is now c granted n few (still_local old now P tells size c n granted few h local) (λ l.
+    local_same old now P tells size c (suc n) (λ j m. each_at old now P tells size c 0 (min (n + 1) granted) j h (omega arith) (omega (arith, m, l)))
+    ∙ ap (λ (k : ℕ). all_local old c (suc k)) most ∙ most_over old c granted (omega (arith, most, l))))
+
+-- where the next instruction is local, at least one is
+pub some_most : (code : List ℕ) (c : Ctx) (n : ℕ) → 0 < n → all_local code c 1 ≡ true → 0 < most_local code c n
+some_most code c zero some local = absurd (omega arith)
+some_most code c (suc zero) some local = rw local (omega arith)
+some_most code c (suc (suc n)) some local = some_if _ (some_most code c (suc n) (omega arith) local)
+  where
+    some_if : (b : Bool) → 0 < most_local code c (suc n) → 0 < (if b then suc (suc n) else most_local code c (suc n))
+    some_if true h = omega arith
+    some_if false h = h
