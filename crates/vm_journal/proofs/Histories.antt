@@ -1,15 +1,15 @@
 -- Histories with one more entry.
-use Rattle.std.proofs.Common.{◌≡◌, ℕ, ◌+◌, ◌<◌, Bool, true, false, ◌&&◌, List, [], ◌∷◌, ◌++◌, length, take, drop, get_or, refl, sym, ap, subst, ◌∙◌}
+use Rattle.std.proofs.Common.{◌≡◌, ℕ, ◌+◌, ◌<◌, ◌≤◌, Bool, true, false, ◌&&◌, List, [], ◌∷◌, ◌++◌, length, take, drop, get_or, refl, sym, ap, subst, ◌∙◌}
 use Rattle.std.proofs.lemmas.Bool.{and_parts}
-use Rattle.std.proofs.lemmas.List.{take-append-drop, take_more}
+use Rattle.std.proofs.lemmas.List.{take-append-drop, take_all, take_more}
 use Rattle.std.proofs.lemmas.Option.{slice_get-get_or}
 use Rattle.vm_law.specs.declared.journal.Signed.{Signed}
 use Rattle.vm_law.specs.declared.journal.Entry.TheVariants.{Claim}
-use Rattle.vm_machine.specs.State.{State}
-use Rattle.vm_machine.specs.Table.{lawful, after}
-use Rattle.vm_machine.specs.declared.start.Start.{Start}
-use Rattle.vm_machine.specs.Starting.{boot}
-use Rattle.vm_machine.specs.History.{after_all, is_lawful_all, IsLegal, last_state}
+use Rattle.vm_state.specs.State.{State}
+use Rattle.vm_table.specs.Table.{lawful, after}
+use Rattle.vm_state.specs.declared.start.Start.{Start}
+use Rattle.vm_state.specs.Start.{boot}
+use Rattle.vm_table.specs.History.{after_all, is_lawful_all, IsLegal, last_state}
 use Rattle.vm_journal.specs.Replaying.{IsFirstBad}
 
 after_all-append : (s : State) (xs ys : List Signed) → after_all s (xs ++ ys) ≡ after_all (after_all s xs) ys
@@ -73,3 +73,9 @@ pub first_bad : (start : Start) (h : List Signed) (at : ℕ) → IsFirstBad star
 first_bad start h at f legal =
     let none : Signed = record { by = 0; entry = Claim 0 } in
     not_legal start h at none f.within (f.bad (get_or h at none) (slice_get-get_or h at none f.within)) legal
+
+-- all of the entries are a history, once so many are
+pub whole_legal : (start : Start) (items h : List Signed) (at : ℕ) → items ≡ h → length items ≤ at → IsLegal start (take at h) → IsLegal start h
+whole_legal start items h at same l e =
+    let past = subst (λ (xs : List Signed). length xs ≤ at) same l in
+    subst (IsLegal start) (take_all at h past) e

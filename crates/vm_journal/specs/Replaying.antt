@@ -1,10 +1,10 @@
 -- What replaying a journal answers.
 use Rattle.std.specs.Prelude.{◌≡◌, ℕ, ◌<◌, false, List, length, take, slice_get, Option, Some, None, Result, Ok, Err}
 use Rattle.vm_law.specs.declared.journal.Signed.{Signed}
-use Rattle.vm_machine.specs.declared.start.Start.{Start}
-use Rattle.vm_machine.specs.View.{View}
-use Rattle.vm_machine.specs.Table.{lawful}
-use Rattle.vm_machine.specs.History.{IsLegal, last_state}
+use Rattle.vm_state.specs.declared.start.Start.{Start}
+use Rattle.vm_table.specs.View.{View}
+use Rattle.vm_table.specs.Table.{lawful}
+use Rattle.vm_table.specs.History.{IsLegal, last_state}
 use Rattle.vm_journal.specs.declared.replaying.ReplayError.{ReplayError}
 use Rattle.vm_journal.specs.declared.replaying.ReplayError.TheVariants.{BadEntry, Memory}
 
@@ -13,6 +13,11 @@ pub record IsFirstBad (start : Start) (journal : List Signed) (at : ℕ) : Type 
   pub within : at < length journal
   pub before : IsLegal start (take at journal)
   pub bad : (x : Signed) → slice_get journal at ≡ Some x → lawful (last_state start (take at journal)) x.by x.entry ≡ false
+
+-- the entries before a place, or all
+abbrev pub front_of : Option ℕ → List Signed → List Signed
+front_of None journal = journal
+front_of (Some at) journal = take at journal
 
 -- the run after the entries before the first that isn't lawful, and the place of that one; or after all of them
 abbrev pub ReplaysTo : Start → List Signed → View → Option ℕ → Type 0

@@ -1,14 +1,16 @@
 //! Replaying a journal.
 ghost use Rattle.std.specs.Prelude.{◌≡◌, IfOk, IsOkUnless};
-ghost use Rattle.vm_journal.specs.declared.replaying.ReplayError.TheVariants.{Memory};
-ghost use Rattle.vm_machine.specs.Starting.{IsSound};
-ghost use Rattle.vm_machine.specs.History.{IsLegal};
-ghost use Rattle.vm_journal.specs.Replaying.{Replays, ReplaysTo};
+ghost use Rattle.vm_state.specs.Start.{IsSound};
+ghost use Rattle.vm_table.specs.History.{IsLegal};
+ghost use Rattle.vm_laws.specs.Laws.{Laws};
+ghost use Rattle.vm_journal.specs.declared.replaying.ReplayError.TheVariants as replay_error;
+ghost use Rattle.vm_journal.specs.Replaying.{front_of, Replays, ReplaysTo};
 
 use std::alloc::Global;
 use thiserror::Error;
 use vm_law::{Journal, OutOfMemory};
-use vm_machine::{Run, Start};
+use vm_state::Start;
+use vm_table::Run;
 
 /// Why a journal isn't replayed.
 #[derive(Debug, Drop, Error)]
@@ -16,12 +18,13 @@ pub enum ReplayError {
     /// The entry at this place, counted from 0, is the first that isn't lawful where it stands.
     #[error("the entry at {at} isn't lawful")]
     BadEntry { at: u64 },
+    /// An allocation was refused.
     #[error("out of memory")]
     Memory,
 }
 
 impl From<OutOfMemory> for ReplayError {
-    ghost from_gives = { λ _ e. e ≡ Memory };
+    ghost from_gives = { λ _ e. e ≡ replay_error.Memory };
 
     fn from(_error: OutOfMemory) -> ReplayError {
         ReplayError::Memory
@@ -44,7 +47,9 @@ pub fn replay_front(
     journal: &Journal,
 ) -> Result<Replayed, OutOfMemory>
     requires { IsSound start.now }
-    ensures { IfOk result (λ x. ReplaysTo start.now journal.now x.run x.bad) }
+    ensures front { IfOk result (λ x. ReplaysTo start.now journal.now x.run x.bad) }
+    // What stands before the first entry that isn't lawful has the laws of histories.
+    ensures laws { IfOk result (λ x. Laws start.now (front_of x.bad journal.now)) }
 {
     let mut run = Run::begin(alloc, start)?;
     for (at, signed) in journal.as_slice().iter().enumerate() {
@@ -67,6 +72,8 @@ pub fn replay(alloc: Global, start: &Start, journal: &Journal) -> Result<Run, Re
     requires { IsSound start.now }
     ensures replays { Replays start.now journal.now result }
     ensures legal_is_replayed { IsLegal start.now journal.now → IsOkUnless result ReplayError.Memory }
+    // A journal that is replayed has the laws of histories.
+    ensures laws { IfOk result (λ _. Laws start.now journal.now) }
 {
     let replayed = replay_front(alloc, start, journal)?;
     let Replayed { run, bad } = replayed;

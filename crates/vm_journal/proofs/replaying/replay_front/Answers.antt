@@ -1,9 +1,10 @@
-use Rattle.std.proofs.Common.{◌≡◌, sym, ap, ◌∙◌, slice_index_or}
+use Rattle.std.proofs.Common.{◌≡◌, take, sym, ap, ◌∙◌, slice_index_or}
 use Rattle.vm_law.specs.declared.journal.Signed.{Signed}
 use Rattle.vm_law.specs.declared.journal.Entry.TheVariants.{Claim}
-use Rattle.vm_machine.specs.State.{State}
-use Rattle.vm_machine.specs.Table.{lawful, after}
-use Rattle.vm_journal.proofs.Histories.{step_legal, step_state}
+use Rattle.vm_state.specs.State.{State}
+use Rattle.vm_table.specs.Table.{lawful, after}
+use Rattle.vm_journal.proofs.Histories.{step_legal, step_state, whole_legal}
+use Rattle.vm_laws.proofs.Laws.{laws_hold}
 use Rattle.vm_journal.proofs.replaying.replay_front.Goals as goal
 
 -- what is read past the end of a journal
@@ -22,3 +23,12 @@ loop-at-preserved c =
       legal = step_legal c.args.start.now items c.args.journal.now c.loop-at.at none c.loop-at.run.state c.as_slice-signed-items.ensures c.loop-at-test.true c.loop-at.invariant.legal c.loop-at.invariant.state may;
       state = step_state c.args.start.now items c.args.journal.now c.loop-at.at none c.loop-at.run.state c.advance.new.self.state c.as_slice-signed-items.ensures c.loop-at-test.true c.loop-at.invariant.state step;
     }
+
+pub returns-then-not-advance-clause-laws : goal.returns-then-not-advance-clause-laws
+returns-then-not-advance-clause-laws c =
+    laws_hold c.args.start.now (take c.loop-at.at c.args.journal.now) c.requires c.loop-at.invariant.legal
+
+pub returns-clause-laws : goal.returns-clause-laws
+returns-clause-laws c =
+    laws_hold c.args.start.now c.args.journal.now c.requires
+    (whole_legal c.args.start.now c.as_slice-signed-items.result.now c.args.journal.now c.loop-at.at c.as_slice-signed-items.ensures c.loop-at-test.false c.loop-at.invariant.legal)

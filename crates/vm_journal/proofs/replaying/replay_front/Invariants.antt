@@ -1,5 +1,5 @@
 use Rattle.std.proofs.Common.{◌≡◌, take}
-use Rattle.vm_machine.specs.History as history
+use Rattle.vm_table.specs.History as history
 use Rattle.vm_journal.proofs.replaying.replay_front.Given as goal
 
 abbrev pub invariant-loop-at : goal.invariant-loop-at
