@@ -1,0 +1,157 @@
+//! What is looked up of a run.
+ghost use Rattle.std.specs.Prelude.{◌<◌};
+
+use crate::case::{CaseError, byte, cut, dword, numbers_of, word};
+use crate::look_cpu::look_cpu;
+use crate::look_disk::{look_disk, print_range};
+use crate::print::{
+    bit, order_name, print_bytes, print_entry, print_meeting, print_said, print_samples, print_why,
+};
+use std::alloc::{AllocError, Global};
+use std::fmt::Write;
+use vm_law::Bytes;
+use vm_state::Answer;
+use vm_table::Run;
+
+/// The counts of a run.
+fn look_count(run: &Run, name: &str, out: &mut String) -> Result<bool, AllocError> {
+    let number = match name {
+        "executed" => run.executed(),
+        "limit" => run.limit(),
+        "entries" => run.entries(),
+        "room" => run.room(),
+        "grant" => u64::from(run.grant()),
+        "place" => u64::from(run.place()),
+        "passes" => u64::from(run.pass_count()),
+        "cpus" => u64::from(run.cpu_count()),
+        "disks" => u64::from(run.drive_count()),
+        "ticks" => run.tick_of(),
+        "answers" => run.answers().len() as u64,
+        _ => return Ok(false),
+    };
+    write!(out, "{number}")?;
+    Ok(true)
+}
+
+/// What is so or isn't.
+fn look_bit(run: &Run, name: &str, out: &mut String) -> Result<bool, AllocError> {
+    let set = match name {
+        "begun" => run.begun(),
+        "cut" => run.is_cut(),
+        "quiet" => run.quiet(),
+        "usedup" => run.used_up(),
+        "closed" => run.closed(),
+        "paused" => run.paused(),
+        _ => return Ok(false),
+    };
+    out.push_str(bit(set))?;
+    Ok(true)
+}
+
+/// What a run as a whole has.
+fn look_whole(run: &Run, name: &str, out: &mut String) -> Result<bool, AllocError> {
+    match name {
+        "console" => print_bytes(run.console(), out)?,
+        "samples" => print_samples(run.samples(), out)?,
+        "ended" => print_why(run.ended(), out)?,
+        "meet" => print_meeting(run.machine().meet.current(), out)?,
+        "order" => out.push_str(order_name(run.next_order()))?,
+        "waiting" => print_bytes(run.machine().uart.saved().received.as_slice(), out)?,
+        _ => return Ok(false),
+    }
+    Ok(true)
+}
+
+/// An order that is done.
+fn look_answer(answer: &Answer, name: &str, out: &mut String) -> Result<bool, AllocError> {
+    match name {
+        "answer" => print_said(answer.said, out)?,
+        "noted" => print_samples(answer.samples.as_slice(), out)?,
+        "done" => out.push_str(order_name(Some(&answer.order)))?,
+        _ => return Ok(false),
+    }
+    Ok(true)
+}
+
+fn look_order(run: &Run, name: &str, k: u64, out: &mut String) -> Result<bool, CaseError> {
+    let k = usize::try_from(k).map_err(|_| CaseError::Form)?;
+    match run.answers().get(k) {
+        None => Ok(false),
+        Some(answer) => Ok(look_answer(answer, name, out)?),
+    }
+}
+
+/// Bytes of memory, at most 512 of them.
+fn print_memory(
+    alloc: Global,
+    run: &Run,
+    at: u64,
+    len: u64,
+    out: &mut String,
+) -> Result<(), CaseError> {
+    let ram = &run.machine().ram;
+    if len > 512 || len > ram.size() || at > ram.size() - len {
+        return Err(CaseError::Form);
+    }
+    let mut bytes = vec![in alloc; 0; len as usize]?;
+    ram.read(at, bytes.as_mut_slice());
+    print_range(bytes.as_slice(), 0, len, out)
+}
+
+/// How often a page of the code was stored into.
+fn print_version(run: &Run, page: u32, out: &mut String) -> Result<(), CaseError> {
+    run.is_sound();
+    let code = run.machine().ram.code();
+    if u64::from(page) >= (code + 4095) / 4096 {
+        return Err(CaseError::Form);
+    }
+    Ok(write!(out, "{}", run.version(page))?)
+}
+
+/// What a run has under a name and a number.
+fn look_numbered(
+    alloc: Global,
+    run: &Run,
+    name: &str,
+    numbers: &[u64; 3],
+    out: &mut String,
+) -> Result<bool, CaseError> {
+    match name {
+        "ram" => print_memory(alloc, run, numbers[0], numbers[1], out)?,
+        "version" => print_version(run, dword(numbers[0])?, out)?,
+        "first" => print_entry(run.first_lawful(word(numbers[0])?), out)?,
+        "worker" => out.push_str(bit(run.is_worker(word(numbers[0])?, byte(numbers[1])?)))?,
+        "pin" => match byte(numbers[0])? {
+            pin if pin < 32 => write!(out, "{}", run.machine().ioapic.count(pin))?,
+            _ => return Err(CaseError::Form),
+        },
+        "table" => write!(
+            out,
+            "0x{:x}",
+            run.machine().ioapic.saved().entries[entry_at(numbers)]
+        )?,
+        _ => return Ok(false),
+    }
+    Ok(true)
+}
+
+/// The pin that a number names.
+fn entry_at(numbers: &[u64; 3]) -> usize
+    ensures { result < 32 }
+{
+    (numbers[0] % 32) as usize
+}
+
+/// Prints what a run has under a name, with its numbers.
+pub fn look(alloc: Global, run: &Run, what: &str, out: &mut String) -> Result<(), CaseError> {
+    let (name, words) = cut(what);
+    let numbers = numbers_of(words)?;
+    let known = look_count(run, name, out)?
+        || look_bit(run, name, out)?
+        || look_whole(run, name, out)?
+        || look_order(run, name, numbers[0], out)?
+        || look_cpu(run, name, &numbers, out)?
+        || look_disk(run, name, &numbers, out)?
+        || look_numbered(alloc, run, name, &numbers, out)?;
+    if known { Ok(()) } else { Err(CaseError::Form) }
+}
