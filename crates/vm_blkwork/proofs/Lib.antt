@@ -1,0 +1,7 @@
+pub mod Boards
+pub mod Choosing
+pub mod Fitting
+pub mod Own
+pub mod Putting
+pub mod Sectors
+pub mod Shut

@@ -1,0 +1,6 @@
+pub mod Histories
+pub mod Images
+pub mod Home
+pub mod Keeping
+pub mod Holding
+pub mod Reading

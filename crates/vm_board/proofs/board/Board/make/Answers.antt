@@ -1,0 +1,13 @@
+use Rattle.std.proofs.Common.{◌≡◌, List, [], Option, refl, sym, ap, subst, ◌∙◌}
+use Rattle.vm_law.specs.declared.journal.Signed.{Signed}
+use Rattle.vm_host.specs.Views.{ImageView}
+use Rattle.vm_state.specs.declared.start.Start.{Start}
+use Rattle.vm_state.specs.Start.{IsSound, boot}
+use Rattle.vm_board.specs.Board.{IsBoard}
+use Rattle.vm_board.specs.Homes.{AreFresh, AreHomes}
+use Rattle.vm_board.specs.View.{BoardView}
+use Rattle.vm_board.proofs.Keeping.{boot_board}
+use Rattle.vm_board.proofs.board.Board.make.Goals as goal
+
+pub invariant_of-result : goal.invariant_of-result
+invariant_of-result g c = boot_board g.I.Image.seen _ c.args.images.items c.requires.sound c.requires.fresh c.in_ok-run.ensures c.new.ensures.items (c.from_vec-images.ensures ∙ c.in_ok-at_home.ensures)

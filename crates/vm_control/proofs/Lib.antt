@@ -1,0 +1,4 @@
+pub mod Duties
+pub mod Growing
+pub mod Held
+pub mod Pieces

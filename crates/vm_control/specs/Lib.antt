@@ -1,0 +1,4 @@
+pub mod Fits
+pub mod Outside
+pub mod Turn
+pub mod View

@@ -1,0 +1,158 @@
+//! Control.
+ghost use Rattle.std.specs.Prelude.{◌≡◌, ◌≢◌, ◌≤◌, ◌++◌, true, false, [], IfOk, OnOk, OnErr, Ok};
+ghost use Rattle.vm_host.specs.Counts.{Counted};
+ghost use Rattle.vm_board.specs.Turn.{GoesOn, TakesTurn, some_entry};
+ghost use Rattle.vm_control.specs.Fits.{ControlFits};
+ghost use Rattle.vm_control.specs.Outside.{IsSink, WritesHeld};
+ghost use Rattle.vm_control.specs.Turn.{turn_of};
+
+use crate::failures;
+use crate::writing::write_out;
+use std::alloc::Global;
+use std::marker::Model;
+use thiserror::Error;
+use vm_board::{Board, Did};
+use vm_event::Events;
+use vm_host::{Host, Image, Sink};
+use vm_law::{EndCause, Entry, OutOfMemory};
+use vm_state::Start;
+use vm_table::Run;
+
+/// Why the work outside failed.
+#[derive(Clone, Copy, Debug, PartialEq, Eq, Error)]
+pub enum OutFault {
+    /// The host failed. Its count of faults rose.
+    #[error("the file system failed")]
+    Failed,
+    /// The console failed. Its count of faults rose.
+    #[error("the console failed")]
+    Sink,
+    /// Memory was refused.
+    #[error("out of memory")]
+    Memory,
+}
+
+/// Control. It keeps what it took over of the run's console, of which it wrote a first part.
+#[derive(Drop)]
+pub struct Control {
+    events: Events,
+    console: Vec<u8>,
+    written: usize,
+}
+
+impl Model for Control {
+    ghost use Rattle.std.specs.Prelude.{◌≡◌, ◌≤◌, true, length, take, drop};
+    ghost use Rattle.vm_event.specs.Events.{is_enabled, is_there};
+    ghost use Rattle.vm_control.specs.View.{ControlView, control_code};
+
+    ghost Value = { ControlView };
+
+    ghost coded = { control_code };
+
+    ghost view = { λ c. record {
+      wrote = take c.written c.console.items;
+      held = drop c.written c.console.items;
+      failed = is_enabled c.events 0;
+    } };
+
+    ghost invariant = { λ c. (c.written ≤ length c.console.items) × (is_there c.events 0 ≡ true) };
+}
+
+impl Control {
+    /// Control of a run at its start: it wrote nothing and holds nothing, and nothing failed.
+    pub fn new(alloc: Global, _start: &Start) -> Result<Control, OutOfMemory>
+        ensures { IfOk result (λ c. c ≡ record { wrote = []; held = []; failed = false }) }
+    {
+        Ok(Control {
+            events: failures::none_yet(),
+            console: Vec::new(alloc),
+            written: 0,
+        })
+    }
+
+    /// Takes over what the console has received since. Where memory is refused nothing changes.
+    fn take_over(&mut self, run: &Run) -> Result<(), OutOfMemory>
+        requires { ControlFits run.now.state self.old }
+        ensures whole { OnOk result (self.new.wrote ++ self.new.held ≡ run.now.state.console) }
+        ensures wrote { self.new.wrote ≡ self.old.wrote }
+        ensures failed { self.new.failed ≡ self.old.failed }
+        ensures refused { OnErr result (self.new ≡ self.old) }
+    {
+        let from = self.console.len();
+        self.console.extend_from_slice(&run.console()[from..])?;
+        Ok(())
+    }
+
+    /// Adds the end of the run where the work outside failed and that is lawful, or else the first lawful entry of control's
+    /// list, and says whether there is one.
+    fn choose<I: Image + Drop>(&self, board: &mut Board<I>) -> bool
+        requires room { 1 ≤ board.old.room }
+        ensures goes_on { GoesOn board.old board.new (turn_of board.old.state self.now.failed) }
+        ensures some { result ≡ some_entry (turn_of board.old.state self.now.failed) }
+        ensures console { board.new.state.console ≡ board.old.state.console }
+    {
+        let end = Entry::End {
+            why: EndCause::Outside,
+        };
+        if failures::any(&self.events) && board.run().may(0, &end) {
+            board.add(0, end);
+            return true;
+        }
+        match board.run().first_lawful(0) {
+            Some(entry) => {
+                board.add(0, entry);
+                true
+            }
+            None => false,
+        }
+    }
+
+    /// Takes a turn.
+    ///
+    /// Where the work outside failed and the run isn't ended, it ends it by that cause; else it adds the first entry of its
+    /// list that is lawful: Turn, Yield, Claim, Feed, Tick, End, Wish, Meet, Done, Close. It takes over what the console has
+    /// received since. `Left` comes exactly where the run is closed; else `Nothing` exactly where there is no such entry. At
+    /// `Starved` memory was wanted, and the board stays as it was, but that it notes it.
+    pub fn turn<I: Image + Drop>(&mut self, alloc: Global, board: &mut Board<I>) -> Did
+        requires fits { ControlFits board.old.state self.old }
+        ensures turn { TakesTurn board.old board.new board.old.state.closed (turn_of board.old.state self.old.failed) result }
+        ensures fits { ControlFits board.new.state self.new }
+        ensures whole { result ≢ Did.Starved → self.new.wrote ++ self.new.held ≡ board.new.state.console }
+        ensures wrote { self.new.wrote ≡ self.old.wrote }
+        ensures failed { self.new.failed ≡ self.old.failed }
+    {
+        if board.reserve(alloc, 1).is_err() || self.take_over(board.run()).is_err() {
+            board.starve();
+            return Did::Starved;
+        }
+        let closed = board.run().closed();
+        let added = self.choose(board);
+        Did::of(closed, added)
+    }
+
+    /// Writes the bytes that are held to the console, until it has taken all of them or fails. A failure is remembered. The
+    /// host isn't called.
+    pub fn outside<H: Host, S: Sink>(
+        &mut self,
+        _alloc: Global,
+        _host: &mut H,
+        console: &mut S,
+    ) -> Result<(), OutFault>
+        ensures writes { WritesHeld self.old self.new (S.seen console.old) (S.seen console.new) }
+        ensures all { OnOk result (self.new.held ≡ []) }
+        ensures same { OnOk result (self.new.failed ≡ self.old.failed) }
+        ensures failed { OnErr result (self.new.failed ≡ true) }
+        ensures cause { Counted (S.seen console.old).faults (S.seen console.new).faults result }
+        ensures only { IsSink result }
+    {
+        let (count, result) = write_out(console, &self.console[self.written..]);
+        self.written += count;
+        match result {
+            Ok(()) => Ok(()),
+            Err(_) => {
+                failures::note(&mut self.events);
+                Err(OutFault::Sink)
+            }
+        }
+    }
+}

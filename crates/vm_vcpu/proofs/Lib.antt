@@ -1,0 +1,10 @@
+pub mod Back
+pub mod Beginning
+pub mod Closed
+pub mod Copying
+pub mod Fetches
+pub mod Lists
+pub mod Looking
+pub mod Standing
+pub mod Staying
+pub mod Turning

@@ -1,0 +1,7 @@
+pub mod Ahead
+pub mod Copies
+pub mod Fits
+pub mod New
+pub mod Others
+pub mod Turn
+pub mod View
