@@ -1,8 +1,10 @@
 #!/usr/bin/env python3
 """Makes the cases of crates/asm_cases. README.md says how it is run."""
 
+import glob
 import os
 import re
+import struct
 import subprocess
 import sys
 import tempfile
@@ -11,6 +13,9 @@ ROOT = os.path.dirname(os.path.dirname(os.path.abspath(__file__)))
 SPELLINGS = os.path.join(ROOT, "crates/x86_spellings/stdin")
 BY_HAND = os.path.join(ROOT, "tests/assembly.cases")
 CASES = os.path.join(ROOT, "crates/asm_cases")
+EXAMPLES = os.path.join(ROOT, "examples")
+ROUNDS = 1000000  # of the loops of examples/bench
+CONDITIONS = "o no b ae e ne be a s ns p np l ge le g".split()
 
 WORDS = {"pushf": "pushfq", "popf": "popfq"}
 SIZES = {"BYTE": 8, "WORD": 16, "DWORD": 32, "QWORD": 64}
@@ -115,8 +120,123 @@ def by_hand():
             yield tuple(line.split(" => "))
 
 
+def conditions():
+    """Each instruction with a condition: our text, and GNU's."""
+    for condition in CONDITIONS:
+        yield f"j{condition} rel 0x5", f"j{condition} .+7"
+        yield f"j{condition} rel -0x100", f"j{condition} .-0xfa"
+        yield f"set{condition} al", f"set{condition} al"
+        yield f"cmov{condition} eax,ebx", f"cmov{condition} eax,ebx"
+
+
+def spelled_out(text):
+    """A file's text as the text of a case."""
+    return text.replace("\\", "\\\\").replace("\n", "\\n").replace("\t", "\\t")
+
+
+def image_line(image):
+    """What `image` prints of the bytes of an image's file."""
+    assert image[:8] == b"VMFLAT1\n"
+    entry, code = struct.unpack("<QQ", image[8:24])
+    return f"{entry} {code} {image[24:].hex()}"
+
+
+def examples():
+    """The guests of examples/, each as its text and its image; those of examples/bench by loops.py."""
+    for source in sorted(glob.glob(os.path.join(EXAMPLES, "*.asm"))):
+        with open(source, encoding="utf-8") as text, open(source[:-4] + ".img", "rb") as image:
+            yield text.read(), image.read()
+    for name in ("registers", "memory"):
+        with tempfile.TemporaryDirectory() as folder:
+            made = os.path.join(folder, name)
+            loops = os.path.join(EXAMPLES, "bench/loops.py")
+            subprocess.run([sys.executable, loops, name, str(ROUNDS), "image", made], check=True)
+            with open(os.path.join(EXAMPLES, f"bench/{name}.asm"), encoding="utf-8") as text, open(made, "rb") as image:
+                yield text.read(), image.read()
+
+
+# the guest of the workload in GNU's words; jumps and displacements to labels have 32 bits
+GUEST = """
+.intel_syntax noprefix
+start: mov ebx,0xfee00020
+mov eax,dword ptr [rbx]
+shr eax,24
+mov ecx,dword ptr [rax*4+counts]
+test ecx,ecx
+{{disp32}} je counted
+again: lock add dword ptr [total],1
+dec ecx
+{{disp32}} jne again
+counted: lock add dword ptr [ready],1
+test eax,eax
+{{disp32}} je wait
+hlt
+wait: cmp dword ptr [ready],{cpus}
+{{disp32}} jne wait
+mov ebx,dword ptr [total]
+mov ecx,8
+mov edx,0x3f8
+digit: rol ebx,4
+mov eax,ebx
+and eax,15
+mov al,byte ptr [rax+digits]
+out dx,al
+dec ecx
+{{disp32}} jne digit
+mov al,10
+out dx,al
+hlt
+{boot}
+digits: .ascii "0123456789ABCDEF"
+total: .long 0
+ready: .long 0
+counts: .long {counts}
+"""
+BOOT = """
+boot: mov ebx,0xfee00300
+mov dword ptr [rbx],0xc0600
+{disp32} jmp start
+"""
+
+
+def counts_of(cpus, number):
+    """The counts that `make CPUS NUMBER` takes: the generator of the C standard's example, modulo 2^31."""
+    counts = []
+    for _ in range(cpus):
+        number = (1103515245 * number + 12345) % 2**31
+        counts.append(1 + number % 10000)
+    return counts
+
+
+def workload_by_gnu(counts):
+    """What `workload` prints, by GNU as and ld."""
+    cpus = len(counts)
+    text = GUEST.format(cpus=cpus, boot=BOOT if cpus > 1 else "", counts=",".join(map(str, counts)))
+    with tempfile.TemporaryDirectory() as folder:
+        source, made, linked, image = (os.path.join(folder, f"all.{end}") for end in ("s", "o", "elf", "bin"))
+        with open(source, "w", encoding="utf-8") as out:
+            out.write(text)
+        subprocess.run(["as", "--64", "-o", made, source], check=True)
+        subprocess.run(["ld", "-Ttext", "0", "-e", "0", "-o", linked, made], check=True)
+        subprocess.run(["objcopy", "-O", "binary", "-j", ".text", linked, image], check=True)
+        names = subprocess.run(["nm", linked], check=True, capture_output=True, text=True).stdout
+        places = {line.split()[2]: int(line.split()[0], 16) for line in names.splitlines()}
+        with open(image, "rb") as payload:
+            return f"{places.get('boot', 0)} {places['digits']} {payload.read().hex()}"
+
+
+def workloads():
+    for cpus, number in ((1, 0), (1, 1), (2, 0), (16, 4294967295)):
+        yield counts_of(cpus, number)
+    yield [10000] * 16
+
+
 def main():
     cases = list(by_hand())
+    cases.append(("# the guests of examples",) * 2)
+    cases += [(f"image {spelled_out(text)}", image_line(image)) for text, image in examples()]
+    cases.append(("# workloads: make 1 0, make 1 1, make 2 0, make 16 4294967295, and sixteen counts of 10,000",) * 2)
+    cases += [(f"workload {','.join(map(str, counts))}", workload_by_gnu(counts)) for counts in workloads()]
     cases.append(("# the canonical spellings of x86_spellings",) * 2)
     cases += [(f"code {ours(text)}", digits) for kind, digits, text in spellings() if kind == "canonical"]
     plain = [text for kind, _, text in spellings() if kind == "spelling" and not re.search(r" [+-]0x", text)]
@@ -126,8 +246,11 @@ def main():
     for text, digits in zip(plain, by_gnu(plain)):
         if digits:
             cases.append((f"code {ours(text)}", OTHERS.get(text, digits)))
+    both = list(conditions())
+    cases += [(f"code {text}", digits) for (text, _), digits in zip(both, by_gnu([gnu for _, gnu in both]))]
     cases.append(("# each line is given back",) * 2)
     texts = {ours(text): None for _, _, text in spellings()}
+    texts |= {text: None for text, _ in both}
     cases += [(f"same {text}", "ok") for text in texts]
     with open(os.path.join(CASES, "stdin"), "w", encoding="utf-8") as out:
         out.writelines(f"{case}\n" for case, _ in cases)

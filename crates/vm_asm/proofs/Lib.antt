@@ -1,12 +1,5 @@
-pub mod Blanks
-pub mod FirstWord
+pub mod Again
 pub mod Pieces
-pub mod Places
-pub mod Printed
-pub mod Same
-pub mod Spelled
-pub mod Sound
-pub mod Speller
-pub mod Steps
-pub mod Trees
 pub mod Shortness
+pub mod Sound
+pub mod Steps

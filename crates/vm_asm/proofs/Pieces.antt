@@ -8,30 +8,47 @@ use Rattle.x86_grammar.specs.declared.table.Map.TheVariants.{One, Two}
 use Rattle.x86_grammar.specs.Grammar.{IsOpcode, Spelled}
 use Rattle.std.specs.Prelude.{Result, Err}
 use Rattle.x86_decode.specs.declared.fault.DecodeFault.{DecodeFault}
-use Rattle.vm_asm.specs.Disassembly.{Piece, IsFirst, IsUndecoded, AreRead, piece_text, pieces_text}
+use Rattle.vm_asm.specs.Disassembly.{Piece, IsFirst, IsUndecoded, AreRead, IsSpelled, AddsSpelled, AreSpelled, IsAssembledTo, IsDisassembly, piece_text, pieces_text}
 
--- up to a place of the code the pieces are read, and the text is theirs
-pub record Begun (ps : List Piece) (at : ℕ) (code out : List ℕ) : Type 0 where
+-- up to a place of the code the pieces are read, and the text and the bytes are theirs
+pub record Begun (ps : List Piece) (at : ℕ) (code told spelled : List ℕ) : Type 0 where
   pub on : (qs : List Piece) → AreRead qs (drop at code) → AreRead (ps ++ qs) code
-  pub text : out ≡ pieces_text ps
+  pub text : told ≡ pieces_text ps
+  pub bytes : AreSpelled ps spelled
 
-pub begun_none : (code text : List ℕ) → text ≡ [] → Begun [] 0 code text
-begun_none code text e = record { on = λ qs r. r; text = e }
+pub begun_none : (code text bytes : List ℕ) → text ≡ [] → bytes ≡ [] → Begun [] 0 code text bytes
+begun_none code text bytes e f = record { on = λ qs r. r; text = e; bytes = f }
 
 pub drop_end : (code : List ℕ) (at : ℕ) → length code ≤ at → drop at code ≡ []
 drop_end code at h = at_drop_all (λ (l : List ℕ). l) code at h
 
-pub begun_more : (ps : List Piece) (at : ℕ) (code text more : List ℕ) (p : Piece) (n : ℕ)
-    → Begun ps at code text → IsFirst p n (drop at code) → more ≡ text ++ piece_text p → Begun (ps ++ p ∷ []) (at + n) code more
-begun_more ps at code text more p n b first is = record {
+spelled_push : (ps : List Piece) (p : Piece) (out bytes : List ℕ) → AreSpelled ps out → IsSpelled p bytes → AreSpelled (ps ++ p ∷ []) (out ++ bytes)
+spelled_push [] p out bytes a s = (bytes, [], s, refl, ap (λ (l : List ℕ). l ++ bytes) a ∙ sym (append-nil bytes))
+spelled_push (q ∷ qs) p out bytes a s =
+    (a.0, a.1 ++ bytes, a.2, spelled_push qs p a.1 bytes a.3 s, ap (λ (l : List ℕ). l ++ bytes) a.4 ∙ append_assoc a.0 a.1 bytes)
+
+pub spelled_more : (ps : List Piece) (p : Piece) (old new : List ℕ) → AreSpelled ps old → AddsSpelled p old new → AreSpelled (ps ++ p ∷ []) new
+spelled_more ps p old new a s = subst (λ (l : List ℕ). AreSpelled (ps ++ p ∷ []) l) (sym s.2) (spelled_push ps p old s.0 a s.1)
+
+pub begun_more : (ps : List Piece) (at : ℕ) (code text bytes : List ℕ) (more then : List ℕ) (p : Piece) (n : ℕ)
+    → Begun ps at code text bytes → IsFirst p n (drop at code) → AddsSpelled p bytes then → more ≡ text ++ piece_text p → Begun (ps ++ p ∷ []) (at + n) code more then
+begun_more ps at code text bytes more then p n b first adds is = record {
   on = λ qs r. subst (λ (l : List Piece). AreRead l code) (sym (append_assoc ps (p ∷ []) qs))
       (b.on (p ∷ qs) (n, first, subst (λ (c : List ℕ). AreRead qs c) (sym (drop-drop n at code)) r));
   text = is ∙ ap (λ (t : List ℕ). t ++ piece_text p) b.text
       ∙ sym (flat_map-append piece_text ps (p ∷ []) ∙ ap (λ (t : List ℕ). pieces_text ps ++ t) (append-nil (piece_text p)));
+  bytes = spelled_more ps p bytes then b.bytes adds;
 }
 
-pub begun_all : (ps : List Piece) (at : ℕ) (code text : List ℕ) → Begun ps at code text → drop at code ≡ [] → (qs : List Piece) × AreRead qs code × (text ≡ pieces_text qs)
-begun_all ps at code text b none = (ps, subst (λ (l : List Piece). AreRead l code) (append-nil ps) (b.on [] none), b.text)
+pub begun_all : (ps : List Piece) (at : ℕ) (code text bytes : List ℕ) (told out : List ℕ) → Begun ps at code text bytes → drop at code ≡ [] → told ≡ text → out ≡ bytes → IsAssembledTo told out → IsDisassembly code text
+begun_all ps at code text bytes told out b none e f back = (
+  ps,
+  bytes,
+  subst (λ (l : List Piece). AreRead l code) (append-nil ps) (b.on [] none),
+  b.bytes,
+  b.text,
+  subst (λ (t : List ℕ). IsAssembledTo t bytes) e (subst (λ (o : List ℕ). IsAssembledTo told o) f back),
+)
 
 -- ---- a spelling isn't empty
 

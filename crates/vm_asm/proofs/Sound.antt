@@ -1,16 +1,16 @@
 -- What a layout keeps true, and that its image is allowed.
-use Rattle.std.proofs.Common.{◌≡◌, ◌∙◌, ℕ, ◌<◌, ◌≤◌, Bool, true, false, nat_lt, zero, suc, List, [], ◌∷◌, length, Option, Some, None, cond, refl, sym, ap, arith, lit≤, ltb-true, ne_eqb}
+use Rattle.std.proofs.Common.{◌≡◌, ◌∙◌, ℕ, ◌<◌, ◌≤◌, Bool, true, false, nat_lt, zero, suc, List, length, Option, Some, None, cond, refl, sym, ap, arith, lit≤, ltb-true, ne_eqb}
 use Rattle.std.specs.Prelude.{IfSome, unwrap_or}
 use Rattle.vm_law.specs.Image.{IsAllowed}
 use Rattle.vm_asm.specs.declared.fault.AsmKind.TheVariants as kind
-use Rattle.vm_asm.specs.declared.label.Value.{Value}
-use Rattle.vm_asm.specs.declared.label.Value.TheVariants as value
+use Rattle.asm_words.specs.declared.label.Value.{Value}
+use Rattle.asm_words.specs.declared.label.Value.TheVariants as value
 use Rattle.vm_asm.specs.declared.line.Line.{Line}
 use Rattle.vm_asm.specs.declared.statement.Statement.{Statement}
 use Rattle.vm_asm.specs.declared.statement.Statement.TheVariants as statement
 use Rattle.vm_asm.specs.Assembly.{image_with}
 use Rattle.vm_asm.specs.Layout.{Laid, IsSound, nothing_laid, with_statement, with_label, with_mark, added, ended, end_behind, place_of, in_code, entry_fault, code_fault, known_fault, entry_place}
-use Rattle.vm_asm.specs.Statement.{Places}
+use Rattle.asm_insn.specs.Resolving.{Places}
 use Rattle.vm_asm.proofs.Steps.{end_push}
 
 -- ---- a line more

@@ -15,8 +15,9 @@ use Rattle.vm_asm.specs.declared.layout.Placed.{Placed}
 use Rattle.vm_asm.specs.Line.{name_in}
 use Rattle.vm_asm.specs.Layout.{Laid, Stops, error_of, line_step, add_name, names_after, end_behind}
 use Rattle.vm_asm.specs.Assembly.{put, put_all, in_line, error_in, Declines}
-use Rattle.vm_asm.specs.Spelling.{Speller}
-use Rattle.vm_asm.specs.Statement.{Places, Reading}
+use Rattle.asm_insn.specs.Spelling.{Speller}
+use Rattle.asm_insn.specs.Resolving.{Places}
+use Rattle.vm_asm.specs.Statement.{Reading}
 
 module _ (spell : Speller) (names : List (List ℕ)) (n : ℕ) (laid : Laid) (rest : Option (Bor (List ℕ))) (text : Bor (List ℕ)) (line : List ℕ) (after : Option (Bor (List ℕ))) (total : Result Laid (Fault AsmKind))
     (is : rest ≡ Some text) (cut : lines text.now ≡ line ∷ lines_after after) (so_far : read_lines (line_step spell names) n laid (lines_after rest) ≡ total) where

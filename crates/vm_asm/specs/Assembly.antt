@@ -13,9 +13,11 @@ use Rattle.vm_asm.specs.declared.layout.Placed.{Placed}
 use Rattle.vm_asm.specs.declared.statement.Statement.{Statement}
 use Rattle.vm_asm.specs.declared.statement.Statement.TheVariants as statement
 use Rattle.vm_asm.specs.Layout.{Laid, bytes_of, entry_at, known_fault, names_of, layout_of}
-use Rattle.vm_asm.specs.Number.{bits_in}
-use Rattle.vm_asm.specs.Spelling.{Speller}
-use Rattle.vm_asm.specs.Statement.{Places, Reading, resolved, spelled_with}
+use Rattle.asm_words.specs.Number.{bits_in}
+use Rattle.asm_insn.specs.Spelling.{Speller}
+use Rattle.asm_insn.specs.Resolving.{Places, resolved}
+use Rattle.vm_asm.specs.Statement.{Reading}
+use Rattle.asm_insn.specs.Instruction.{spelled_with}
 
 -- ---- bytes
 

@@ -4,8 +4,8 @@ use Rattle.vm_law.specs.declared.insn.Width.{Width}
 use Rattle.text_reader.specs.Line.{Fault, lines, and_on, read_lines}
 use Rattle.vm_asm.specs.declared.fault.AsmKind.{AsmKind}
 use Rattle.vm_asm.specs.declared.fault.AsmKind.TheVariants as kind
-use Rattle.vm_asm.specs.declared.label.Value.{Value}
-use Rattle.vm_asm.specs.declared.label.Value.TheVariants as value
+use Rattle.asm_words.specs.declared.label.Value.{Value}
+use Rattle.asm_words.specs.declared.label.Value.TheVariants as value
 use Rattle.vm_asm.specs.declared.fault.AsmError.{AsmError}
 use Rattle.vm_asm.specs.declared.fault.AsmError.TheVariants as error
 use Rattle.vm_asm.specs.declared.layout.Layout.{Layout}
@@ -15,11 +15,14 @@ use Rattle.vm_asm.specs.declared.fault.Refusal.TheVariants.{Kind, Memory}
 use Rattle.vm_asm.specs.declared.line.Line.{Line}
 use Rattle.vm_asm.specs.declared.statement.Statement.{Statement}
 use Rattle.vm_asm.specs.declared.statement.Statement.TheVariants as statement
-use Rattle.vm_asm.specs.Label.{place_in}
+use Rattle.asm_words.specs.Label.{place_in}
 use Rattle.vm_asm.specs.Line.{name_in, line_of}
-use Rattle.vm_asm.specs.Number.{bits}
-use Rattle.vm_asm.specs.Spelling.{Speller}
-use Rattle.vm_asm.specs.Statement.{Places, Reading, is_defined_value, is_defined, fits, instruction_size}
+use Rattle.asm_words.specs.Number.{bits}
+use Rattle.asm_insn.specs.Spelling.{Speller}
+use Rattle.asm_insn.specs.Resolving.{Places}
+use Rattle.vm_asm.specs.Statement.{Reading, is_defined, fits}
+use Rattle.asm_insn.specs.Fitting.{is_defined_value}
+use Rattle.asm_insn.specs.Instruction.{instruction_size}
 
 -- ---- the names of the labels
 

@@ -4,13 +4,13 @@ use Rattle.std.specs.Str.{is_utf8}
 use Rattle.text_reader.specs.Line.{without_indent}
 use Rattle.text_reader.specs.Word.{cut_at}
 use Rattle.vm_asm.specs.declared.fault.AsmKind.TheVariants as kind
-use Rattle.vm_asm.specs.declared.label.Value.{Value}
-use Rattle.vm_asm.specs.declared.label.Value.TheVariants.{Undefined}
+use Rattle.asm_words.specs.declared.label.Value.{Value}
+use Rattle.asm_words.specs.declared.label.Value.TheVariants.{Undefined}
 use Rattle.vm_asm.specs.declared.line.Line.{Line}
 use Rattle.vm_asm.specs.declared.statement.Statement.{Statement}
-use Rattle.vm_asm.specs.Blank.{trimmed, before}
-use Rattle.vm_asm.specs.Label.{is_label, label_of}
-use Rattle.vm_asm.specs.Spelling.{Speller}
+use Rattle.asm_words.specs.Blank.{trimmed, before}
+use Rattle.asm_words.specs.Label.{is_label, label_of}
+use Rattle.asm_insn.specs.Spelling.{Speller}
 use Rattle.vm_asm.specs.Statement.{Reading, statement_of}
 
 -- the line before a `;` (59), at its first `:` (58)

@@ -3,16 +3,16 @@ ghost use Rattle.std.specs.Prelude.{◌≡◌, ◌<◌, ◌≤◌, ◌+◌, ◌^
 ghost use Rattle.text_reader.specs.Line.{lines, read_lines};
 ghost use Rattle.text_reader.specs.Word.{texts};
 ghost use Rattle.vm_law.specs.Image.{IsAllowed};
-ghost use Rattle.vm_asm.specs.Spelling.{Speller, IsSpeller};
+ghost use Rattle.asm_insn.specs.Spelling.{Speller, IsSpeller};
 ghost use Rattle.vm_asm.specs.Line.{name_in};
 ghost use Rattle.vm_asm.specs.Layout.{add_name, laid_of, nothing_laid, line_step, names_of, layout_of, known_fault, IsSound, Assembles};
 ghost use Rattle.vm_asm.specs.Assembly.{image_of, assembled};
 
 use crate::emission::bytes_with;
 use crate::fault::AsmError;
-use crate::label::place_in;
 use crate::layout::Layout;
 use crate::line::name_in;
+use asm_words::place_in;
 use std::alloc::{AllocError, Global};
 use text_reader::first_line;
 use vm_law::{FlatImage, Seq};

@@ -2,7 +2,7 @@
 ghost use Rattle.std.specs.Prelude.{◌≡◌, ◌<◌, ◌≤◌, ◌++◌, length, Ok, IfOk, OnOk, string_bytes};
 ghost use Rattle.std.specs.List.{flat_map};
 ghost use Rattle.vm_law.specs.Image.{IsAllowed};
-ghost use Rattle.vm_asm.specs.Spelling.{Speller, IsSpeller};
+ghost use Rattle.asm_insn.specs.Spelling.{Speller, IsSpeller};
 ghost use Rattle.vm_asm.specs.Assembly.{assembled};
 ghost use Rattle.vm_asm.specs.Workload.{counting, writing, boot, cells, waiting, count_line, boot_if, workload_text};
 

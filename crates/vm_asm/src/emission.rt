@@ -1,17 +1,18 @@
 //! The bytes of statements, once each label has its place.
 ghost use Rattle.std.specs.Prelude.{◌≡◌, ◌++◌, ◌-◌, [], length, replicate, IfOk, OnOk};
-ghost use Rattle.vm_asm.specs.Spelling.{Speller, IsSpeller};
+ghost use Rattle.asm_insn.specs.Spelling.{Speller, IsSpeller};
 ghost use Rattle.byteorder.specs.Endian.{little_bytes};
 ghost use Rattle.vm_asm.specs.Layout.{bytes_of, end_behind, Assembles};
-ghost use Rattle.vm_asm.specs.Number.{bits_in};
-ghost use Rattle.vm_asm.specs.Statement.{spelled_with};
+ghost use Rattle.asm_words.specs.Number.{bits_in};
+ghost use Rattle.asm_insn.specs.Instruction.{spelled_with};
 ghost use Rattle.vm_asm.specs.Assembly.{statement_bytes, put, put_all, error_in, Adds, Puts};
 
 use crate::fault::{AsmError, AsmKind, Refusal};
 use crate::layout::{Placed, bytes_of};
-use crate::number::bits_in;
 use crate::spelling::put_spelling;
-use crate::statement::{Instruction, Statement, resolved};
+use crate::statement::Statement;
+use asm_insn::{Instruction, resolved};
+use asm_words::bits_in;
 use byteorder::{ByteOrder, LittleEndian};
 use std::alloc::{AllocError, Global};
 use vm_law::Width;

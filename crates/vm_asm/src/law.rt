@@ -1,7 +1,7 @@
-//! What the definitions of the text mean to each other.
-ghost use Rattle.vm_asm.specs.Law.{SpellerLaw};
+//! What comes back.
+ghost use Rattle.vm_asm.specs.Law.{ComesBackLaw};
 
-/// There is a function that gives each instruction's canonical spelling, of which the clauses of this crate speak.
-pub fn spelling_is_a_function()
-    ensures { SpellerLaw }
+/// What `disassemble` gives of code in which each instruction stands as its canonical spelling is assembled to that code.
+pub fn canonical_code_comes_back()
+    ensures { ComesBackLaw }
 {}

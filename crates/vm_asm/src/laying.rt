@@ -2,17 +2,17 @@
 ghost use Rattle.std.specs.Prelude.{◌≡◌};
 
 use crate::fault::{AsmError, AsmKind, Refusal};
-use crate::label::Value;
 use crate::layout::{Layout, Placed};
 use crate::line::{Line, line_of};
 use crate::statement::Statement;
+use asm_words::Value;
 use std::alloc::{AllocError, Global};
 
 impl Layout {
     ghost use Rattle.std.specs.Prelude.{◌≡◌, ◌<◌, ◌≤◌, ◌+◌, ◌^◌, length, OnOk, OnErr};
     ghost use Rattle.text_reader.specs.Line.{Fault};
     ghost use Rattle.text_reader.specs.Word.{texts};
-    ghost use Rattle.vm_asm.specs.Spelling.{Speller, IsSpeller};
+    ghost use Rattle.asm_insn.specs.Spelling.{Speller, IsSpeller};
     ghost use Rattle.vm_asm.specs.Layout.{laid_of, with_label, with_mark, added, line_step, refused_at, IsSound, Lays, Steps, lay};
 
     /// Where labels stand with one more, if there is one.

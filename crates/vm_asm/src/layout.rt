@@ -1,12 +1,13 @@
 //! The layout: where each line's bytes and labels stand.
 ghost use Rattle.std.specs.Prelude.{◌≡◌, ◌<◌, ◌^◌};
-ghost use Rattle.vm_asm.specs.Spelling.{Speller, IsSpeller};
+ghost use Rattle.asm_insn.specs.Spelling.{Speller, IsSpeller};
 ghost use Rattle.vm_asm.specs.Layout.{bytes_of, gap, size_at, is_passed};
 
 use crate::fault::{AsmError, AsmKind};
-use crate::label::Value;
 use crate::line::Line;
-use crate::statement::{Statement, is_defined_value};
+use crate::statement::Statement;
+use asm_insn::is_defined_value;
+use asm_words::Value;
 use std::alloc::{AllocError, Global};
 use vm_law::Width;
 
@@ -88,7 +89,7 @@ fn is_passed(place: u32, statement: &Statement) -> bool
 impl Layout {
     ghost use Rattle.std.specs.Prelude.{◌≡◌, ◌≤◌, IfOk, IfSome, option_map};
     ghost use Rattle.text_reader.specs.Word.{texts};
-    ghost use Rattle.vm_asm.specs.Spelling.{Speller, IsSpeller};
+    ghost use Rattle.asm_insn.specs.Spelling.{Speller, IsSpeller};
     ghost use Rattle.vm_asm.specs.Layout.{laid_of, nothing_laid, stood, is_second, kind_at, next_place, place_of, entry_fault, known_fault, ended, entry_at, error_of, IsSound};
 
     /// The layout before the first line of a text with these names.

@@ -7,32 +7,22 @@
 //! vCPUs.
 #![tactic(auto)]
 
-mod argument;
 mod assembling;
-mod blank;
 mod counting;
+mod directive;
 mod disassembling;
 mod emission;
 mod fault;
-mod instruction;
-mod label;
 mod law;
 mod laying;
 mod layout;
 mod line;
-mod memory;
-mod mnemonic;
-mod number;
-mod operand;
-mod printing;
-mod register;
 mod spelling;
 mod statement;
-mod taken_apart;
-mod words;
 
+pub use asm_insn::spelling_is_a_function;
 pub use assembling::assemble;
 pub use counting::workload;
 pub use disassembling::disassemble;
 pub use fault::{AsmError, AsmKind};
-pub use law::spelling_is_a_function;
+pub use law::canonical_code_comes_back;

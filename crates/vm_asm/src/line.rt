@@ -1,14 +1,13 @@
 //! Lines: a label and a statement, each where it stands, and a comment.
 ghost use Rattle.std.specs.Prelude.{◌≡◌, ◌<◌, ◌^◌, length, option_map};
 ghost use Rattle.text_reader.specs.Word.{texts};
-ghost use Rattle.vm_asm.specs.Spelling.{Speller, IsSpeller};
+ghost use Rattle.asm_insn.specs.Spelling.{Speller, IsSpeller};
 ghost use Rattle.vm_asm.specs.Statement.{Answers};
 ghost use Rattle.vm_asm.specs.Line.{label_text, statement_text, marked, name_in, line_of};
 
-use crate::blank::{before, trimmed, without_front};
 use crate::fault::{AsmKind, Refusal};
-use crate::label::{Value, is_label, label_of};
 use crate::statement::{Statement, statement_of};
+use asm_words::{Value, before, is_label, label_of, trimmed, without_front};
 use std::alloc::Global;
 use text_reader::{cut_at, utf8_of};
 

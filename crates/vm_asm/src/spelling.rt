@@ -1,22 +1,10 @@
 //! The bytes of an instruction.
-ghost use Rattle.std.specs.Prelude.{◌≡◌, length, option_map};
 ghost use Rattle.vm_asm.specs.Assembly.{Adds};
-ghost use Rattle.vm_asm.specs.Spelling.{Speller, IsSpeller};
+ghost use Rattle.asm_insn.specs.Spelling.{Speller, IsSpeller};
 
 use crate::fault::{AsmKind, Refusal};
 use vm_law::Insn;
 use x86_encode::{Labels, encode_labelled, labelled};
-
-/// How many bytes the canonical spelling of an instruction with labels has, where it has one.
-pub fn spelled_len(labels: Labels, insn: &Insn) -> Option<u8>
-    ensures { (spell : Speller) → IsSpeller spell → result ≡ option_map length (spell labels insn.now) }
-{
-    if !labelled(insn, labels) {
-        return None;
-    }
-    let mut bytes = [0u8; 15];
-    Some(encode_labelled(insn, labels, &mut bytes))
-}
 
 /// Adds the canonical spelling of an instruction with labels; `Range` where it has none.
 pub fn put_spelling(out: &mut Vec<u8>, labels: Labels, insn: &Insn) -> Result<(), Refusal>

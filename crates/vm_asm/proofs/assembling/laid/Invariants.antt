@@ -2,7 +2,7 @@ use Rattle.std.proofs.Common.{◌≡◌, ◌≤◌, ◌+◌, length}
 use Rattle.text_reader.specs.Line.{lines, lines_after, left, read_lines}
 use Rattle.text_reader.specs.Word.{texts}
 use Rattle.vm_asm.specs.Layout.{laid_of, nothing_laid, line_step, IsSound}
-use Rattle.vm_asm.specs.Spelling.{Speller, IsSpeller}
+use Rattle.asm_insn.specs.Spelling.{Speller, IsSpeller}
 use Rattle.vm_asm.proofs.assembling.laid.Given as goal
 
 abbrev pub invariant-loop-rest : goal.invariant-loop-rest

@@ -6,7 +6,7 @@ use Rattle.vm_asm.proofs.disassembling.disassemble.Given as goal
 
 abbrev pub invariant-loop-at : goal.invariant-loop-at
 invariant-loop-at l = record {
-  begun : (ps : List Piece) × Begun ps l.at l.code (string_bytes l.text);
+  begun : (ps : List Piece) × Begun ps l.at l.code (string_bytes l.text) l.bytes.items;
   within : l.at ≤ length l.code;
 }
 

@@ -1,7 +1,7 @@
 use Rattle.std.proofs.Common.{◌≡◌, [], drop, length}
 use Rattle.vm_asm.specs.Assembly.{put_all}
 use Rattle.vm_asm.specs.Layout.{end_behind}
-use Rattle.vm_asm.specs.Spelling.{Speller, IsSpeller}
+use Rattle.asm_insn.specs.Spelling.{Speller, IsSpeller}
 use Rattle.vm_asm.proofs.emission.bytes_with.Given as goal
 
 abbrev pub invariant-loop-placed : goal.invariant-loop-placed

@@ -1,5 +1,5 @@
 use Rattle.std.proofs.Common.{rules, refl}
-use Rattle.vm_asm.proofs.Spelled.{adds_some, spelled_none}
+use Rattle.asm_insn.proofs.Spelled.{adds_some, spelled_none}
 use Rattle.vm_asm.proofs.spelling.put_spelling.Goals as goal
 
 pub returns-then-not-labelled : goal.returns-then-not-labelled

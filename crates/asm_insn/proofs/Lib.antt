@@ -1,0 +1,5 @@
+pub mod Printed
+pub mod Same
+pub mod Spelled
+pub mod Speller
+pub mod Trees

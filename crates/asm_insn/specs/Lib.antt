@@ -1,0 +1,12 @@
+pub mod Argument
+pub mod Fitting
+pub mod Instruction
+pub mod Law
+pub mod Naming
+pub mod OneOperand
+pub mod OperandKind
+pub mod Parts
+pub mod Printing
+pub mod Resolving
+pub mod Spelling
+pub mod TwoOperands
