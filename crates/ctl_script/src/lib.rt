@@ -16,5 +16,5 @@ mod reading;
 
 pub use fault::{ScriptError, ScriptKind};
 pub use law::a_print_reads_as_itself;
-pub use printing::print;
+pub use printing::{Hex16, print, put_order};
 pub use reading::read;

@@ -9,9 +9,9 @@ use std::alloc::Global;
 use std::fmt;
 use vm_law::{Order, OutOfMemory, Script};
 
-/// A number as 16 hexadecimal digits.
+/// A number as 16 hexadecimal digits in lower case.
 #[derive(Clone, Copy)]
-struct Hex16(u64);
+pub struct Hex16(pub u64);
 
 impl fmt::Display for Hex16 {
     ghost output = { λ x. Some (hex16 x.0) };
@@ -52,8 +52,8 @@ fn put_against(out: &mut String, name: &str, base: &str) -> Result<(), OutOfMemo
     Ok(())
 }
 
-// An order, without its line feed.
-fn put_order(out: &mut String, order: &Order) -> Result<(), OutOfMemory>
+/// Adds an order's text, which is its line without the line feed.
+pub fn put_order(out: &mut String, order: &Order) -> Result<(), OutOfMemory>
     requires { has_registers order.now ≡ true }
     ensures { OnOk result (string_bytes out.new ≡ string_bytes out.old ++ order_text order.now) }
 {

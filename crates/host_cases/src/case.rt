@@ -166,6 +166,7 @@ pub fn check<R: Threads + Wait + Sync, B: Bed>(
         let gave = match command {
             "run" => ran.run(threads, alloc, bed.files(), fields)?,
             "console" => ran.console(alloc)?,
+            "log" => ran.log(alloc)?,
             "fail_console" => ran.fail_console(fields)?,
             _ => bed.run(command, fields)?,
         };

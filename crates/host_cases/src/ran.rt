@@ -13,6 +13,7 @@ pub struct Ran {
     /// Its exit status, or 0.
     pub status: u8,
     console: MemSink,
+    log: MemSink,
     /// Which call of the next one's console is to fail, if one is.
     fault: Option<u64>,
 }
@@ -23,6 +24,7 @@ impl Ran {
         Ran {
             status: 0,
             console: MemSink::new(alloc),
+            log: MemSink::new(alloc),
             fault: None,
         }
     }
@@ -55,14 +57,14 @@ impl Ran {
             words.push(word)?;
         }
         self.renew_console(alloc)?;
-        let mut log = MemSink::new(alloc);
+        self.log = MemSink::new(alloc);
         let outcome = vmrun(
             threads,
             alloc,
             &words,
             host,
             &mut self.console,
-            &mut log,
+            &mut self.log,
             &NoGate,
         );
         self.status = outcome.status;
@@ -72,5 +74,10 @@ impl Ran {
     /// What its guest wrote.
     pub fn console(&self, alloc: Global) -> Result<Gave, CaseError> {
         Ok(Gave::Bytes(self.console.taken().to_vec(alloc)?))
+    }
+
+    /// What it wrote to its log: the line of a refusal.
+    pub fn log(&self, alloc: Global) -> Result<Gave, CaseError> {
+        Ok(Gave::Bytes(self.log.taken().to_vec(alloc)?))
     }
 }

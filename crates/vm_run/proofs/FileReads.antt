@@ -1,68 +1,103 @@
--- What a file that couldn't be read whole says.
-use Rattle.std.proofs.Common.{◌≡◌, ℕ, zero, suc, ◌<◌, Bool, true, false, List, [], ◌∷◌, length, slice_get, Option, Some, None, Result, Ok, Err, IsSomeAnd, IsErrOf, refl, ap, subst, sym, ◌∙◌, arith}
-use Rattle.std.specs.Result.{IsErrAnd}
+-- What a file that couldn't be read says.
+use Rattle.std.proofs.Common.{◌≡◌, ◌==◌, ℕ, zero, suc, ◌<◌, ◌≤◌, ◌↔◌, Bool, true, false, inl, inr, List, [], ◌∷◌, length, replicate, slice_get, Option, Some, None, Result, Ok, Err, IsSomeAnd, IsErrOf, refl, ap, subst, sym, ◌∙◌, arith}
+use Rattle.std.specs.Prelude.{MatchResult, nat_lt}
+use Rattle.std.proofs.lemmas.Bool.{le-ltb}
+use Rattle.std.proofs.lemmas.Bool.Decides.{nat_tests}
+use Rattle.std.proofs.lemmas.List.{length-replicate}
+use Rattle.byte_reader.specs.declared.reading.Refusal.{Refusal as Fault}
+use Rattle.byte_reader.specs.Fixed.{IsFault, text_at, same}
+use Rattle.vm_law.specs.declared.image.FlatImage.{FlatImage}
 use Rattle.vm_law.specs.declared.journal.Signed.{Signed}
+use Rattle.vm_law.specs.Image.{IsImage}
 use Rattle.vm_host.specs.Told.{WhereTold}
 use Rattle.vm_host.specs.declared.host.HostFault.TheVariants as host
 use Rattle.ckpt_store.specs.declared.loading.LoadFault.{LoadFault}
 use Rattle.ckpt_store.specs.declared.loading.LoadFault.TheVariants as loading
+use Rattle.ckpt_store.specs.Loading.{IsGatedFront}
+use Rattle.vm_image.specs.Fault.{first_fault}
+use Rattle.vm_image.specs.declared.error.ImageError.{ImageError}
+use Rattle.vm_image.specs.declared.error.ImageError.TheVariants as image_error
+use Rattle.vm_image.specs.declared.error.ImageKind.{ImageKind}
 use Rattle.vm_machine.specs.declared.start.Start.{Start}
-use Rattle.vm_run.specs.declared.ending.Fault.{Fault}
+use Rattle.vm_journal.specs.declared.fault.JournalKind.{JournalKind}
+use Rattle.vm_journal.specs.declared.fault.JournalKind.TheVariants.{Gate}
 use Rattle.vm_journal.specs.declared.fault.JournalError.{JournalError}
 use Rattle.vm_journal.specs.declared.fault.JournalError.TheVariants as decoding
-use Rattle.vm_journal.specs.Reading.{Answers}
+use Rattle.vm_journal.specs.Reading.{Answers, whole, journal_at}
 use Rattle.vm_journal.specs.Spelling.{spelling, AreEntries}
-use Rattle.vm_run.specs.declared.ending.Fault.TheVariants.{Refused, Memory}
-use Rattle.vm_run.specs.Ends.{after_load, after_decode}
-use Rattle.ckpt_store.specs.Loading.{IsGatedFront}
-use Rattle.vm_run.specs.Files.{Reads, IsFileOf, IsRefused, IsJournal}
-use Rattle.vm_run.specs.Starting.{IsStart}
+use Rattle.vm_run.specs.Refusing.{after_load, after_image, after_decode, image_kind, journal_kind}
+use Rattle.vm_run.specs.Files as files
+use Rattle.vm_run.specs.Files.{Unread, IsFileOf, IsRefusedAt, IsJournal, IsJournalFault}
+use Rattle.vm_run.specs.Starting.{IsStart, IsImageFault, memory_size, image_limit}
 use Rattle.vm_run.proofs.Pieces.{there}
+use Rattle.vm_status.specs.declared.kind.Kind.{Kind}
+use Rattle.vm_status.specs.declared.kind.Kind.TheVariants.{Long}
+use Rattle.vm_status.specs.declared.role.Role.{Role}
+use Rattle.vm_status.specs.declared.role.Role.TheVariants as roles
 
-module _ {X : Type 0} where
-  pub err_is : (r : Result X Fault) (f : Fault) → IsErrAnd r (λ e. e ≡ f) → r ≡ Err f
-  err_is (Ok x) f h = absurd h
-  err_is (Err e) f h = ap {A = Fault} {B = Result X Fault} (λ e. Err e) h
+module _ {X : Type 0} (told : Bool) (file : Option (List ℕ)) (role : Role) (name : List ℕ) (Means : List ℕ → X → Type 0) (IsFirst : List ℕ → ℕ → Kind → Type 0) (most : ℕ)
+    (too_long : (bytes : List ℕ) (x : X) → most < length bytes → Means bytes x → ⊥)
+    (first_long : (bytes : List ℕ) → most < length bytes → IsFirst bytes most Long) where
+  -- a file that is too long, where its host tells it, and any bytes that are too many where it doesn't
+  long_refused : (t : Bool) → (t ≡ true → IsSomeAnd file (λ f. most < length f)) → IsRefusedAt t file Means IsFirst most Long
+  long_refused true long =
+      let found = there file (λ f. most < length f) (long refl) in
+      record { bytes = found.0; is_file = λ _. found.1; none = λ x m. too_long found.0 x found.2 m; first = first_long found.0 found.2 }
+  long_refused false long =
+      let fits : most < length (replicate (suc most) 0) = omega (arith, length-replicate {A = ℕ} (suc most) 0) in
+      record {
+        bytes = replicate (suc most) 0;
+        is_file = λ t. absurd (let e : false ≡ true = t in cc);
+        none = λ x m. too_long (replicate (suc most) 0) x fits m;
+        first = first_long (replicate (suc most) 0) fits;
+      }
 
-  module _ (told : Bool) (file : Option (List ℕ)) (Means : List ℕ → X → Type 0) (most : ℕ)
-      (too_long : (bytes : List ℕ) (x : X) → most < length bytes → Means bytes x → ⊥)
-      (some : (x : X) → Means [] x → ⊥) where
-    -- a file that is too long, where its host tells it, and any other bytes where it doesn't
-    long_refused : (t : Bool) → (t ≡ true → IsSomeAnd file (λ f. most < length f)) → IsRefused t file Means
-    long_refused true long =
-        let found = there file (λ f. most < length f) (long refl) in
-        record { bytes = found.0; is_file = λ _. found.1; none = λ x m. too_long found.0 x found.2 m }
-    long_refused false long =
-        record { bytes = []; is_file = λ t. absurd (let e : false ≡ true = t in cc); none = some }
+  pub unloaded : {V : Type 0} (fault : LoadFault)
+      → WhereTold told (IsErrOf {T = V} (Err fault) loading.Long → IsSomeAnd file (λ f. most < length f))
+      → WhereTold told (IsErrOf {T = V} (Err fault) (loading.Host host.Missing) → file ≡ None)
+      → Unread told file role name Means IsFirst (after_load role name most fault)
+  unloaded (loading.Host host.Missing) long missing = files.missing refl (λ t. missing t refl)
+  unloaded (loading.Host host.Failed) long missing = files.failed refl
+  unloaded (loading.Host host.Memory) long missing = files.spent refl
+  unloaded loading.Long long missing = files.bad most Long refl (long_refused told (λ t. long t refl))
 
-    load_reads : {V : Type 0} (r : Result V LoadFault) (fault : LoadFault) → r ≡ Err fault
-        → WhereTold told (IsErrOf r loading.Long → IsSomeAnd file (λ f. most < length f))
-        → WhereTold told (IsErrOf r (loading.Host host.Missing) → file ≡ None)
-        → Reads told file Means (Err (after_load fault))
-    load_reads r (loading.Host host.Missing) is long missing = λ t. missing t is
-    load_reads r (loading.Host host.Failed) is long missing = tt
-    load_reads r (loading.Host host.Memory) is long missing = tt
-    load_reads r loading.Long is long missing = long_refused told (λ t. long t is)
-
-    pub reads_nothing : {V : Type 0} (r : Result V LoadFault) (fault : LoadFault) (result : Result X Fault) → r ≡ Err fault
-        → WhereTold told (IsErrOf r loading.Long → IsSomeAnd file (λ f. most < length f))
-        → WhereTold told (IsErrOf r (loading.Host host.Missing) → file ≡ None)
-        → IsErrAnd result (λ e. e ≡ after_load fault) → Reads told file Means result
-    reads_nothing r fault result is long missing e =
-        subst (λ (x : Result X Fault). Reads told file Means x) (sym (err_is result (after_load fault) e)) (load_reads r fault is long missing)
+-- ---- images
 
 -- a file of more bytes than an image of this memory has isn't one
-pub long_is_no_start : (bytes : List ℕ) (start : Start) → 268435480 < length bytes → IsStart bytes start → ⊥
-long_is_no_start bytes start lt s = omega (arith, ap length s.is_image.spelled, s.is_image.allowed.fits)
+pub long_is_no_start : (limit : ℕ) (bytes : List ℕ) (start : Start) → 268435480 < length bytes → IsStart limit bytes start → ⊥
+long_is_no_start limit bytes start lt s = omega (arith, ap length s.is_image.spelled, s.is_image.allowed.fits)
 
-pub nothing_is_no_start : (start : Start) → IsStart [] start → ⊥
-nothing_is_no_start start s = omega (arith, ap length s.is_image.spelled)
+pub long_is_image_fault : (bytes : List ℕ) → 268435480 < length bytes → IsImageFault bytes 268435480 Long
+long_is_image_fault bytes lt = inl (lt, refl, refl)
+
+-- what reading an image answers where it gives none
+abbrev read_err : ImageError → Result FlatImage ImageError
+read_err e = Err e
+
+no_image : (e : ImageError) (f : FlatImage) (at : ℕ) (k : ImageKind) → e ≡ image_error.Fault at k
+    → MatchResult (read_err e) (λ g. g ≡ f) (λ x. x ≡ image_error.Memory) → ⊥
+no_image e f at k is only = let bad : image_error.Fault at k ≡ image_error.Memory = sym is ∙ only in cc
+
+module _ (told : Bool) (file : Option (List ℕ)) (name : List ℕ) (limit : ℕ) (bytes : List ℕ) (is_file : WhereTold told (file ≡ Some bytes)) (within : length bytes ≤ image_limit) where
+  pub no_image_read : (e : ImageError)
+      → ((f : FlatImage) → IsImage memory_size bytes f → MatchResult (read_err e) (λ g. g ≡ f) (λ x. x ≡ image_error.Memory))
+      → ((at : ℕ) (k : ImageKind) → (read_err e ≡ read_err (image_error.Fault at k)) ↔ (first_fault memory_size bytes ≡ Some (at, k)))
+      → Unread told file roles.Image name (IsStart limit) IsImageFault (after_image name e)
+  no_image_read (image_error.Fault at k) only exact = files.bad at (image_kind k) refl (record {
+    bytes = bytes;
+    is_file = is_file;
+    none = λ start s. no_image (image_error.Fault at k) s.image at k refl (only s.image s.is_image);
+    first = inr (within, (k, (exact at k).0 refl, refl));
+  })
+  no_image_read image_error.Memory only exact = files.spent refl
+
+-- ---- journals
 
 pub long_is_no_journal : (bytes : List ℕ) (journal : List Signed) → 4294967296 < length bytes → IsJournal bytes journal → ⊥
 long_is_no_journal bytes journal lt j = omega (arith, j.short)
 
-pub nothing_is_no_journal : (journal : List Signed) → IsJournal [] journal → ⊥
-nothing_is_no_journal journal j = omega (arith, ap length j.spelled)
+pub long_is_journal_fault : (bytes : List ℕ) → 4294967296 < length bytes → IsJournalFault bytes 4294967296 Long
+long_is_journal_fault bytes lt = inl (lt, refl, refl)
 
 -- a journal's bytes begin with the gate that is open
 journal_begins : (bytes : List ℕ) (journal : List Signed) → IsJournal bytes journal → slice_get bytes 0 ≡ Some 1
@@ -90,6 +125,39 @@ gated_whole (suc zero ∷ rest) bytes front e = sym (front.is_open refl)
 gated_whole (suc (suc n) ∷ rest) bytes front e =
     absurd (other_gate bytes (suc (suc n)) [] (front.is_shut (other_gate (suc (suc n) ∷ rest) (suc (suc n)) rest refl (λ z. omega (arith, z)))) (λ z. omega (arith, z)) e)
 
+not_one : (n : ℕ) → (suc (suc n) == 1) ≡ false
+not_one n = grind (arith, nat_tests)
+
+abbrev shut_err : List ℕ → Result (List Signed) (Fault JournalKind)
+shut_err bytes = Err (record { left = length bytes; kind = Gate })
+
+-- a gate that is shut is the fault of all that follows it
+shut_whole : (b : ℕ) (rest : List ℕ) → (b == 1) ≡ false → whole (b ∷ rest) ≡ shut_err (b ∷ rest)
+unfolding whole journal_at text_at same
+shut_whole b rest shut =
+    let long : nat_lt (length (b ∷ rest)) 1 ≡ false = le-ltb _ _ (omega arith) in
+    rw (long, shut) refl
+
+module _ (k : JournalKind) (at : ℕ) where
+  shut_fault : (b : ℕ) (rest : List ℕ) → (b == 1) ≡ false → IsFault (length (b ∷ [])) at k (whole (b ∷ [])) → IsFault (length (b ∷ rest)) at k (whole (b ∷ rest))
+  shut_fault b rest shut h =
+      let first : IsFault (length (b ∷ [])) at k (shut_err (b ∷ [])) =
+      subst (λ (r : Result (List Signed) (Fault JournalKind)). IsFault (length (b ∷ [])) at k r) (shut_whole b [] shut) h in
+      subst (λ (r : Result (List Signed) (Fault JournalKind)). IsFault (length (b ∷ rest)) at k r) (sym (shut_whole b rest shut))
+      (omega (arith, first.0), first.1)
+
+  -- the fault of what was read of a file is the file's
+  front_fault : (file bytes : List ℕ) → IsGatedFront file bytes → IsFault (length bytes) at k (whole bytes) → IsFault (length file) at k (whole file)
+  front_fault [] bytes front h =
+      subst (λ (l : List ℕ). IsFault (length l) at k (whole l)) (front.is_shut (no_gate [] refl)) h
+  front_fault (zero ∷ rest) bytes front h =
+      shut_fault zero rest refl
+      (subst (λ (l : List ℕ). IsFault (length l) at k (whole l)) (front.is_shut (other_gate (zero ∷ rest) zero rest refl (λ z. omega (arith, z)))) h)
+  front_fault (suc zero ∷ rest) bytes front h = subst (λ (l : List ℕ). IsFault (length l) at k (whole l)) (front.is_open refl) h
+  front_fault (suc (suc n) ∷ rest) bytes front h =
+      shut_fault (suc (suc n)) rest (not_one n)
+      (subst (λ (l : List ℕ). IsFault (length l) at k (whole l)) (front.is_shut (other_gate (suc (suc n) ∷ rest) (suc (suc n)) rest refl (λ z. omega (arith, z)))) h)
+
 module _ (told : Bool) (file : Option (List ℕ)) (bytes : List ℕ) (front : WhereTold told (IsSomeAnd file (λ f. IsGatedFront f bytes))) where
   pub gated_file : (journal : List Signed) → IsJournal bytes journal → IsFileOf told file IsJournal journal
   gated_file journal j = record {
@@ -99,36 +167,27 @@ module _ (told : Bool) (file : Option (List ℕ)) (bytes : List ℕ) (front : Wh
     means = j;
   }
 
-  gated_refused : (t : Bool) → (t ≡ true → IsSomeAnd file (λ f. IsGatedFront f bytes))
-      → ((journal : List Signed) → IsJournal bytes journal → ⊥) → IsRefused t file IsJournal
-  gated_refused true told_front none =
-      let found = there file (λ f. IsGatedFront f bytes) (told_front refl) in
-      record {
-        bytes = found.0;
-        is_file = λ _. found.1;
-        none = λ journal j. none journal (subst (λ (b : List ℕ). IsJournal b journal) (sym (found.2.is_open (journal_begins found.0 journal j))) j);
-      }
-  gated_refused false told_front none =
-      record { bytes = bytes; is_file = λ t. absurd (let e : false ≡ true = t in cc); none = none }
+  module _ (at : ℕ) (k : JournalKind) (none : (journal : List Signed) → IsJournal bytes journal → ⊥) (fault : IsFault (length bytes) at k (whole bytes)) where
+    gated_refused : (t : Bool) → (t ≡ true → IsSomeAnd file (λ f. IsGatedFront f bytes)) → IsRefusedAt t file IsJournal IsJournalFault at (journal_kind k)
+    gated_refused true told_front =
+        let found = there file (λ f. IsGatedFront f bytes) (told_front refl) in
+        record {
+          bytes = found.0;
+          is_file = λ _. found.1;
+          none = λ journal j. none journal (subst (λ (b : List ℕ). IsJournal b journal) (sym (found.2.is_open (journal_begins found.0 journal j))) j);
+          first = inr (k, front_fault k at found.0 bytes found.2 fault, refl);
+        }
+    gated_refused false told_front =
+        record { bytes = bytes; is_file = λ t. absurd (let e : false ≡ true = t in cc); none = none; first = inr (k, fault, refl) }
 
-  pub gated_nothing : ((journal : List Signed) → IsJournal bytes journal → ⊥) → IsRefused told file IsJournal
-  gated_nothing none = gated_refused told front none
+    pub gated_nothing : IsRefusedAt told file IsJournal IsJournalFault at (journal_kind k)
+    gated_nothing = gated_refused told front
 
   -- bytes that aren't decoded
-  not_decoded : (n : ℕ) (r : Result (List Signed) JournalError) (fault : JournalError) (result : Result (List Signed) Fault) → r ≡ Err fault
-      → ((journal : List Signed) → AreEntries journal → bytes ≡ spelling journal → Answers n r (Ok journal))
-      → IsErrAnd result (λ e. e ≡ after_decode fault) → Reads told file IsJournal result
-  not_decoded n r (decoding.Fault at kind) result is only e =
-      subst (λ (x : Result (List Signed) Fault). Reads told file IsJournal x) (sym (err_is result Refused e))
-      (gated_nothing (λ journal j. subst (λ (x : Result (List Signed) JournalError). Answers n x (Ok journal)) is (only journal j.fits j.spelled)))
-  not_decoded n r decoding.Memory result is only e =
-      subst (λ (x : Result (List Signed) Fault). Reads told file IsJournal x) (sym (err_is result Memory e)) tt
-
--- the same where they stand in another place
-pub decoded_nothing : (told : Bool) (file : Option (List ℕ)) (loaded bytes : List ℕ)
-    → WhereTold told (IsSomeAnd file (λ f. IsGatedFront f loaded)) → bytes ≡ loaded
-    → (n : ℕ) (r : Result (List Signed) JournalError) (fault : JournalError) (result : Result (List Signed) Fault) → r ≡ Err fault
-    → ((journal : List Signed) → AreEntries journal → bytes ≡ spelling journal → Answers n r (Ok journal))
-    → IsErrAnd result (λ e. e ≡ after_decode fault) → Reads told file IsJournal result
-decoded_nothing told file loaded bytes front same =
-    not_decoded told file bytes (subst (λ (b : List ℕ). WhereTold told (IsSomeAnd file (λ f. IsGatedFront f b))) (sym same) front)
+  pub no_journal_read : (name : List ℕ) (e : JournalError)
+      → ((journal : List Signed) → AreEntries journal → bytes ≡ spelling journal → Answers (length bytes) (Err e) (Ok journal))
+      → Answers (length bytes) (Err e) (whole bytes)
+      → Unread told file roles.Journal name IsJournal IsJournalFault (after_decode name e)
+  no_journal_read name (decoding.Fault at k) only exact =
+      files.bad at (journal_kind k) refl (gated_nothing at k (λ journal j. only journal j.fits j.spelled) exact)
+  no_journal_read name decoding.Memory only exact = files.spent refl

@@ -1,5 +1,6 @@
 -- What commands leave alone, over one call after another.
-use Rattle.std.proofs.Common.{◌≡◌, ℕ, ◌≤◌, true, List, Option, Some, None, IfSome, IfNone, sym, subst, inl, inr, arith}
+use Rattle.std.proofs.Common.{◌≡◌, ℕ, ◌≤◌, true, List, Option, Some, None, Result, Ok, Err, IfSome, IfNone, sym, subst, inl, inr, arith}
+use Rattle.std.specs.Prelude.{OnOk, OnErr}
 use Rattle.std.proofs.lemmas.Bool.{cases_lt}
 use Rattle.vm_host.specs.Counts.{Rose}
 use Rattle.vm_host.specs.Crash.{SinceEarlier}
@@ -8,7 +9,12 @@ use Rattle.vm_host.specs.Views.{HostView, SinkView}
 use Rattle.vm_host.proofs.Frames.{reads_itself, reads_on, reads_writes, writes_on}
 use Rattle.vm_machine.specs.declared.start.Start.{Start}
 use Rattle.vm_run.specs.declared.outcome.Kept.{Kept}
-use Rattle.vm_run.specs.Answer.{ChangesOnly, IsRunOf, IsRunFrom}
+use Rattle.vm_cmd.specs.declared.command.RunWords.{RunWords}
+use Rattle.vm_host.specs.Counts.{Counted}
+use Rattle.vm_host.specs.Leaves.{Takes, TakesSome}
+use Rattle.vm_host.specs.declared.sink.SinkFault.{SinkFault}
+use Rattle.vm_host.proofs.Frames.{takes_is_some}
+use Rattle.vm_run.specs.Answer.{ChangesOnly, IsRunOf, IsRunFrom, TakesLine}
 use Rattle.vm_run.specs.Ends.{HasCauses, HasHostCauses, HasSinkCauses}
 use Rattle.vm_run.specs.Files.{IsFileOf}
 use Rattle.vm_run.specs.Starting.{IsStart}
@@ -36,11 +42,11 @@ if_none P Q None f h = f h
 if_none P Q (Some k) f h = tt
 
 -- a run from a start that was read
-pub run_of : (host : HostView) (image : List ℕ) (start : Start) (kept : Option Kept) → IsFileOf host.tells (host.file image) IsStart start
-    → IfSome kept (λ k. IsRunFrom start k) → IfSome kept (λ k. IsRunOf host image k)
-run_of host image start kept file =
-    if_some (λ k. IsRunFrom start k) (λ k. IsRunOf host image k) kept
-    (λ k h. record { start = subst (λ (s : Start). IsFileOf host.tells (host.file image) IsStart s) (sym h.start) file; legal = h.legal; last = h.last })
+pub run_of : (host : HostView) (w : RunWords) (start : Start) (kept : Option Kept) → IsFileOf host.tells (host.file w.file) (IsStart w.limit) start
+    → IfSome kept (λ k. IsRunFrom start k) → IfSome kept (λ k. IsRunOf host w k)
+run_of host w start kept file =
+    if_some (λ k. IsRunFrom start k) (λ k. IsRunOf host w k) kept
+    (λ k h. record { start = subst (λ (s : Start). IsFileOf host.tells (host.file w.file) (IsStart w.limit) s) (sym h.start) file; legal = h.legal; last = h.last })
 
 -- ---- counts
 
@@ -98,3 +104,10 @@ no_causes status host console six seven nine = record {
   only_unwritten = λ lt. absurd (omega (arith, lt));
   later = (omega arith, omega arith, omega arith);
 }
+
+-- ---- the log
+
+pub takes_line : (line : List ℕ) (old new : SinkView) (result : Result (Unit {0}) SinkFault) → OnOk result (Takes line old new) → OnErr result (TakesSome line old new)
+    → Counted old.faults new.faults result → TakesLine line old new
+takes_line line old new (Ok x) whole part cause = record { part = takes_is_some old new line whole; whole = λ calm. whole; later = cause.later }
+takes_line line old new (Err e) whole part cause = record { part = part; whole = λ calm. absurd (calm cause.refused); later = cause.later }

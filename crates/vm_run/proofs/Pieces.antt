@@ -1,9 +1,8 @@
 -- How a file is read piece by piece.
-use Rattle.std.proofs.Common.{◌≡◌, Result, Ok, Err, Option, Some, None, IsSomeAnd, refl, ℕ, ◌+◌, ◌-◌, ◌<◌, ◌≤◌, List, drop, append_assoc, length-drop, ◌++◌, length, take, sym, ◌∙◌, ap, arith, length-append, length-take}
+use Rattle.std.proofs.Common.{◌≡◌, Option, Some, None, IsSomeAnd, refl, ℕ, ◌+◌, ◌<◌, List, ◌++◌, length, take, sym, ◌∙◌, ap, arith, length-append, length-take}
 use Rattle.std.proofs.Math.Seq.{take-add}
 use Rattle.std.proofs.lemmas.List.{take_all}
 use Rattle.vm_host.specs.Files.{ReadsFrom}
-use Rattle.std.specs.Prelude.{OnErr}
 
 -- a piece more
 pub read_more : (bytes file buffer : List ℕ) (n : ℕ) → bytes ≡ take (length bytes) file → ReadsFrom file (length bytes) buffer n → bytes ++ take n buffer ≡ take (length (bytes ++ take n buffer)) file
@@ -24,16 +23,3 @@ read_all bytes file buffer so_far room reads =
 pub there : {X : Type 0} (o : Option X) (P : X → Type 0) → IsSomeAnd o P → (x : X) × (o ≡ Some x) × P x
 there (Some x) P h = (x, refl, h)
 there None P h = absurd h
-
--- a piece more was taken of what is left behind place i
-pub took_more : (taken bytes : List ℕ) (i n : ℕ) → i ≤ length bytes → (taken ++ take i bytes) ++ take n (take (length bytes - i) (drop i bytes)) ≡ taken ++ take (i + n) bytes
-took_more taken bytes i n le =
-    let all : take (length bytes - i) (drop i bytes) ≡ drop i bytes = take_all (length bytes - i) (drop i bytes) (omega (arith, length-drop i bytes)) in
-    ap (λ (l : List ℕ). (taken ++ take i bytes) ++ take n l) all
-    ∙ append_assoc taken (take i bytes) (take n (drop i bytes))
-    ∙ ap (λ (l : List ℕ). taken ++ l) (sym (take-add i n bytes))
-
--- what holds anyhow holds after an error
-pub on_any : {T E : Type 0} (r : Result T E) (P : Type 0) → P → OnErr r P
-on_any (Ok x) P h = tt
-on_any (Err e) P h = h

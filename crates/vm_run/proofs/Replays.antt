@@ -1,19 +1,27 @@
 -- What replays answer.
-use Rattle.std.proofs.Common.{◌≡◌, ℕ, List, [], take, Option, Some, None, IfSome, IfNone, Err, refl, sym, subst, ◌∙◌, ap}
+use Rattle.std.proofs.Common.{◌≡◌, inl, inr, ℕ, List, [], take, Option, Some, None, IfSome, IfNone, refl, sym, subst, ◌∙◌, ap}
 use Rattle.vm_law.specs.declared.journal.Signed.{Signed}
 use Rattle.vm_host.specs.Leaves.{ReadsHost, LeavesSink, TakesSome}
 use Rattle.vm_host.specs.Views.{HostView, SinkView}
 use Rattle.vm_host.proofs.Frames.{leaves_is_some}
-use Rattle.vm_journal.specs.Replaying.{IsFirstBad}
+use Rattle.vm_replay.specs.Replaying.{IsFirstBad}
 use Rattle.vm_machine.specs.declared.start.Start.{Start}
-use Rattle.vm_run.specs.declared.ending.Fault.{Fault}
-use Rattle.vm_run.specs.declared.ending.Fault.TheVariants.{Refused, Failed, Missing, Console, Memory}
+use Rattle.vm_cmd.specs.declared.command.RunWords.{RunWords}
+use Rattle.vm_run.specs.declared.outcome.Ending.{Ending}
+use Rattle.vm_run.specs.declared.outcome.Ending.TheVariants as how
 use Rattle.vm_run.specs.declared.outcome.Kept.{Kept}
 use Rattle.vm_run.specs.Answer as answer
 use Rattle.vm_run.specs.Answer.{outside, sent_in, IsRunFrom, HistoryAnswers, JournalAnswers, ReplayAnswers}
-use Rattle.vm_run.specs.Ends.{fault_status, HasHostCauses}
-use Rattle.vm_run.specs.Files.{IsJournal, IsFileOf, IsRefused, Reads}
-use Rattle.vm_run.specs.Starting.{IsStart}
+use Rattle.vm_run.specs.Ends.{HasHostCauses}
+use Rattle.vm_run.specs.Files.{IsJournal, IsJournalFault, IsFileOf, IsRefusedAt, Unread, bad, missing, failed, spent}
+use Rattle.vm_run.specs.Starting.{IsStart, IsImageFault}
+use Rattle.vm_run.specs.Words.{IsSecond}
+use Rattle.vm_status.specs.Lines.{status_of}
+use Rattle.vm_status.specs.declared.kind.Kind.{Kind}
+use Rattle.vm_status.specs.declared.kind.Kind.TheVariants as kinds
+use Rattle.vm_status.specs.declared.refusal.Refusal.{Refusal}
+use Rattle.vm_status.specs.declared.refusal.Refusal.TheVariants.{Bad, Memory}
+use Rattle.vm_status.specs.declared.role.Role.TheVariants as roles
 
 -- a console that nobody called
 pub silent : (console : SinkView) → LeavesSink console console
@@ -24,32 +32,40 @@ kept_silent console None = tt
 kept_silent console (Some k) = leaves_is_some console console (sent_in k) (silent console)
 
 -- what is kept before the first entry that isn't lawful
-pub front_answers : (console : SinkView) (start : Start) (history : List Signed) (at status : ℕ) (kept : Option Kept) → IsFirstBad start history at
-    → IfNone kept (status ≡ 71) → IfSome kept (λ _. status ≡ 3) → IfSome kept (λ k. IsRunFrom start k) → IfSome kept (λ k. k.journal ≡ take at history)
-    → HistoryAnswers console console history status kept
-front_answers console start history at status None bad none some begins front = answer.spent none
-front_answers console start history at status (Some k) bad none some begins front =
-    answer.unlawful k at refl (subst (λ (s : Start). IsFirstBad s history at) (sym begins.start) bad) front (silent console) some
+pub front_answers : (console : SinkView) (start : Start) (name : List ℕ) (history : List Signed) (at : ℕ) (ending : Ending) (kept : Option Kept) → IsFirstBad start history at
+    → IfNone kept (ending ≡ how.Refused Memory) → IfSome kept (λ _. ending ≡ how.Refused (Bad roles.Journal name at kinds.Entry)) → IfSome kept (λ k. IsRunFrom start k) → IfSome kept (λ k. k.journal ≡ take at history)
+    → HistoryAnswers console console name history ending kept
+front_answers console start name history at ending None first none some begins front = answer.spent none
+front_answers console start name history at ending (Some k) first none some begins front =
+    answer.unlawful k at refl (subst (λ (s : Start). IsFirstBad s history at) (sym begins.start) first) front (silent console) some
 
--- a journal that wasn't read
-pub no_journal : (old new : HostView) (console : SinkView) (journal : List ℕ) (k : Kept) (fault : Fault) (status : ℕ) → status ≡ fault_status fault → k.journal ≡ []
-    → Reads {X = List Signed} old.tells (old.file journal) IsJournal (Err fault) → HasHostCauses journal (fault_status fault) old new
-    → JournalAnswers (outside old new console console) journal status (Some k)
-no_journal old new console journal k Refused status is none reads causes = answer.unspelled k refl none reads (silent console) is
-no_journal old new console journal k Missing status is none reads causes = answer.absent k refl none reads (silent console) is
-no_journal old new console journal k Failed status is none reads causes = answer.unread k refl none (causes.named refl) (silent console) is
-no_journal old new console journal k Memory status is none reads causes = answer.spent is
-no_journal old new console journal k Console status is none reads causes = absurd reads
+as_ending : (a b : Refusal) → a ≡ b → how.Refused a ≡ how.Refused b
+as_ending a b e = ap {A = Refusal} {B = Ending} (λ r. how.Refused r) e
 
--- a file that gives no start
-pub nothing_to_replay : (old new : HostView) (console console_now : SinkView) (image journal : List ℕ) (fault : Fault) (status : ℕ) → status ≡ fault_status fault
-    → Reads {X = Start} old.tells (old.file image) IsStart (Err fault) → HasHostCauses image (fault_status fault) old new
-    → ReplayAnswers (outside old new console console_now) image journal status None
-nothing_to_replay old new console console_now image journal Refused status is reads causes = answer.refused refl reads is
-nothing_to_replay old new console console_now image journal Missing status is reads causes = answer.missing refl reads is
-nothing_to_replay old new console console_now image journal Failed status is reads causes = answer.unread refl (causes.named refl) is
-nothing_to_replay old new console console_now image journal Memory status is reads causes = answer.began (answer.spent is)
-nothing_to_replay old new console console_now image journal Console status is reads causes = absurd reads
+module _ (old new : HostView) where
+  -- a journal that wasn't read
+  pub no_journal : (console : SinkView) (journal : List ℕ) (k : Kept) (refusal : Refusal) → k.journal ≡ []
+      → Unread old.tells (old.file journal) roles.Journal journal IsJournal IsJournalFault refusal → HasHostCauses journal (status_of refusal) old new
+      → JournalAnswers (outside old new console console) journal (how.Refused refusal) (Some k)
+  no_journal console journal k refusal none (bad at kind is refused) causes = answer.unspelled k refl none at kind refused (silent console) (as_ending _ _ is)
+  no_journal console journal k refusal none (missing is gone) causes = answer.absent k refl none gone (silent console) (as_ending _ _ is)
+  no_journal console journal k refusal none (failed is) causes = answer.unread k refl none (causes.named (ap status_of is)) (silent console) (as_ending _ _ is)
+  no_journal console journal k refusal none (spent is) causes = answer.spent (as_ending _ _ is)
+
+  -- a file that gives no start
+  pub nothing_to_replay : (console console_now : SinkView) (w : RunWords) (journal : List ℕ) (refusal : Refusal)
+      → Unread old.tells (old.file w.file) roles.Image w.file (IsStart w.limit) IsImageFault refusal → HasHostCauses w.file (status_of refusal) old new
+      → ReplayAnswers (outside old new console console_now) w journal (how.Refused refusal) None
+  nothing_to_replay console console_now w journal refusal (bad at kind is refused) causes = answer.refused refl at kind refused (as_ending _ _ is)
+  nothing_to_replay console console_now w journal refusal (missing is gone) causes = answer.missing refl gone (as_ending _ _ is)
+  nothing_to_replay console console_now w journal refusal (failed is) causes = answer.unread refl (causes.named (ap status_of is)) (as_ending _ _ is)
+  nothing_to_replay console console_now w journal refusal (spent is) causes = answer.began (answer.spent (as_ending _ _ is))
+
+-- a file that is named twice
+pub twice_replayed : (o : answer.Outside) (w : RunWords) (journal : List ℕ) (ending : Ending) (kept : Option Kept) (start : Start) → kept ≡ None → w.file ≡ journal
+    → IsFileOf o.host.tells (o.host.file w.file) (IsStart w.limit) start → IsSecond w.file ending → ReplayAnswers o w journal ending kept
+twice_replayed o w journal ending kept start none same file (inl is) = answer.twice none same start file is
+twice_replayed o w journal ending kept start none same file (inr is) = answer.began (answer.spent is)
 
 module _ (old mid : HostView) (same : ReadsHost old mid) (name : List ℕ) where
   same_file : {X : Type 0} (Means : List ℕ → X → Type 0) (x : X) → IsFileOf mid.tells (mid.file name) Means x → IsFileOf old.tells (old.file name) Means x
@@ -59,23 +75,25 @@ module _ (old mid : HostView) (same : ReadsHost old mid) (name : List ℕ) where
     means = f.means;
   }
 
-  same_refused : {X : Type 0} (Means : List ℕ → X → Type 0) → IsRefused mid.tells (mid.file name) Means → IsRefused old.tells (old.file name) Means
-  same_refused Means r = record {
+  same_refused : {X : Type 0} (Means : List ℕ → X → Type 0) (IsFirst : List ℕ → ℕ → Kind → Type 0) (at : ℕ) (kind : Kind) → IsRefusedAt mid.tells (mid.file name) Means IsFirst at kind → IsRefusedAt old.tells (old.file name) Means IsFirst at kind
+  same_refused Means IsFirst at kind r = record {
     bytes = r.bytes;
     is_file = λ t. ap (λ F. F name) (sym (same.files t)) ∙ r.is_file (same.told ∙ t);
     none = r.none;
+    first = r.first;
   }
 
   -- the files stay while the start is read
-  moved : (new : HostView) (console console_now : SinkView) (status : ℕ) (kept : Option Kept)
-      → JournalAnswers (outside mid new console console_now) name status kept → JournalAnswers (outside old new console console_now) name status kept
-  moved new console console_now status kept (answer.read history file h) = answer.read history (same_file IsJournal history file) h
-  moved new console console_now status kept (answer.unspelled k is none refused still e) = answer.unspelled k is none (same_refused IsJournal refused) still e
-  moved new console console_now status kept (answer.absent k is none gone still e) =
+  moved : (new : HostView) (console console_now : SinkView) (ending : Ending) (kept : Option Kept)
+      → JournalAnswers (outside mid new console console_now) name ending kept → JournalAnswers (outside old new console console_now) name ending kept
+  moved new console console_now ending kept (answer.read history file h) = answer.read history (same_file IsJournal history file) h
+  moved new console console_now ending kept (answer.unspelled k is none at kind refused still e) =
+      answer.unspelled k is none at kind (same_refused IsJournal IsJournalFault at kind refused) still e
+  moved new console console_now ending kept (answer.absent k is none gone still e) =
       answer.absent k is none (λ t. ap (λ F. F name) (sym (same.files t)) ∙ gone (same.told ∙ t)) still e
-  moved new console console_now status kept (answer.unread k is none named still e) = answer.unread k is none named still e
-  moved new console console_now status kept (answer.spent e) = answer.spent e
+  moved new console console_now ending kept (answer.unread k is none named still e) = answer.unread k is none named still e
+  moved new console console_now ending kept (answer.spent e) = answer.spent e
 
-  pub replay_began : (new : HostView) (console console_now : SinkView) (image : List ℕ) (status : ℕ) (kept : Option Kept)
-      → JournalAnswers (outside mid new console console_now) name status kept → ReplayAnswers (outside old new console console_now) image name status kept
-  replay_began new console console_now image status kept answers = answer.began (moved new console console_now status kept answers)
+  pub replay_began : (new : HostView) (console console_now : SinkView) (w : RunWords) (ending : Ending) (kept : Option Kept)
+      → JournalAnswers (outside mid new console console_now) name ending kept → ReplayAnswers (outside old new console console_now) w name ending kept
+  replay_began new console console_now w ending kept answers = answer.began (moved new console console_now ending kept answers)

@@ -1,9 +1,7 @@
 -- What a run that began answers.
-use Rattle.std.proofs.Common.{◌≡◌, ◌≢◌, ℕ, ◌<◌, ◌≤◌, true, List, Option, Some, None, Result, Ok, Err, IsErrOf, refl, sym, subst, ◌∙◌, ap, arith}
+use Rattle.std.proofs.Common.{◌≡◌, ◌≢◌, ℕ, ◌<◌, ◌≤◌, true, inl, inr, List, Option, Some, None, Result, Ok, Err, refl, sym, subst, ◌∙◌, ap, arith}
 use Rattle.vm_law.specs.declared.journal.Signed.{Signed}
 use Rattle.vm_host.specs.Counts.{Rose}
-use Rattle.vm_host.specs.declared.host.HostFault.{HostFault}
-use Rattle.vm_host.specs.declared.host.HostFault.TheVariants as host
 use Rattle.vm_host.specs.Leaves.{Takes}
 use Rattle.vm_host.specs.Views.{HostView, SinkView}
 use Rattle.vm_machine.specs.declared.start.Start.{Start}
@@ -11,8 +9,9 @@ use Rattle.vm_machine.specs.declared.state.Why.{Why}
 use Rattle.vm_machine.specs.declared.state.Why.TheVariants as why
 use Rattle.vm_machine.specs.History.{IsLegal, is_closed, why_ended}
 use Rattle.vm_machine.specs.Rounds.{IsSolo}
-use Rattle.vm_run.specs.declared.ending.Fault.{Fault}
-use Rattle.vm_run.specs.declared.ending.Fault.TheVariants.{Refused, Failed, Missing, Console as ConsoleFault, Memory as MemoryFault}
+use Rattle.vm_cmd.specs.declared.command.RunWords.{RunWords}
+use Rattle.vm_run.specs.declared.outcome.Ending.{Ending}
+use Rattle.vm_run.specs.declared.outcome.Ending.TheVariants as how
 use Rattle.vm_run.specs.declared.outcome.Kept.{Kept}
 use Rattle.vm_run.specs.declared.rounds.PlayFault.{PlayFault}
 use Rattle.vm_run.specs.declared.rounds.PlayFault.TheVariants.{Console, Memory}
@@ -20,10 +19,15 @@ use Rattle.vm_run.specs.Answer as answer
 use Rattle.vm_run.specs.Answer.{Outside, outside, sent_in, IsSaved, Ran, RunAnswers, ran, unsaved, unwritten, spent, SoloAnswers, began}
 use Rattle.vm_run.specs.Closing as closing
 use Rattle.vm_run.specs.Cut.{IsCutOff}
-use Rattle.vm_run.specs.Ends.{HasStatus, HasCauses, HasHostCauses, HasJournalCauses, IsNamed, IsNamedSome, after_host, fault_status}
-use Rattle.vm_run.specs.Files.{Reads}
-use Rattle.vm_run.specs.Starting.{IsStart}
+use Rattle.vm_run.specs.Ends.{why_status, ending_status, HasCauses, HasHostCauses, HasJournalCauses}
+use Rattle.vm_run.specs.Files as files
+use Rattle.vm_run.specs.Files.{Unread, IsFileOf}
+use Rattle.vm_run.specs.Starting.{IsStart, IsImageFault}
+use Rattle.vm_run.specs.Words.{IsAgain, IsSecond}
 use Rattle.vm_run.proofs.Ended.{ended_once_closed}
+use Rattle.vm_status.specs.Lines.{status_of}
+use Rattle.vm_status.specs.declared.refusal.Refusal.{Refusal}
+use Rattle.vm_status.specs.declared.role.Role.TheVariants as roles
 
 abbrev pub End : Type 0
 End = Result (Unit {0}) PlayFault
@@ -51,23 +55,26 @@ has_run o k p = record {
   wrote = p.all refl;
 }
 
-saved_answers : (o : Outside) (journal : Option (List ℕ)) (k : Kept) (ended : Option Why) (status : ℕ) → ended ≡ why_ended k.start k.journal
-    → IsPlayed o k (Ok tt) → closing.Saves o.host o.host_now journal k.journal ended status → RunAnswers o journal status (Some k)
-saved_answers o journal k ended status is p (closing.saved says keeps) =
+as_ending : (a b : Refusal) → a ≡ b → how.Refused a ≡ how.Refused b
+as_ending a b e = ap {A = Refusal} {B = Ending} (λ r. how.Refused r) e
+
+saved_answers : (o : Outside) (journal : Option (List ℕ)) (k : Kept) (ended : Option Why) (ending : Ending) → ended ≡ why_ended k.start k.journal
+    → IsPlayed o k (Ok tt) → closing.Saves o.host o.host_now journal k.journal ended ending → RunAnswers o journal ending (Some k)
+saved_answers o journal k ended ending is p (closing.saved says keeps) =
     let known = end_known o k p in
     ran k refl (has_run o k p) known.0 known.1 (says known.0 (is ∙ known.1) known.2) keeps
-saved_answers o journal k ended status is p (closing.refused name named told e) = unsaved k refl (has_run o k p) name named told e
-saved_answers o journal k ended status is p (closing.spent e) = spent e
+saved_answers o journal k ended ending is p (closing.unsaved refusal e (inl (name, named, told, r))) = unsaved k refl (has_run o k p) name named told (e ∙ as_ending _ _ r)
+saved_answers o journal k ended ending is p (closing.unsaved refusal e (inr r)) = spent (e ∙ as_ending _ _ r)
 
-pub run_answers : (o : Outside) (journal : Option (List ℕ)) (k : Kept) (end : End) (ended : Option Why) (status : ℕ) → ended ≡ why_ended k.start k.journal
-    → IsPlayed o k end → closing.Closes o.host o.host_now journal k.journal ended end status → RunAnswers o journal status (Some k)
-run_answers o journal k (Ok x) ended status is p c = saved_answers o journal k ended status is p c
-run_answers o journal k (Err Console) ended status is p c =
+pub run_answers : (o : Outside) (journal : Option (List ℕ)) (k : Kept) (end : End) (ended : Option Why) (ending : Ending) → ended ≡ why_ended k.start k.journal
+    → IsPlayed o k end → closing.Closes o.host o.host_now journal k.journal ended end ending → RunAnswers o journal ending (Some k)
+run_answers o journal k (Ok x) ended ending is p c = saved_answers o journal k ended ending is p c
+run_answers o journal k (Err Console) ended ending is p c =
     unwritten k refl (p.closed (λ e. let bad : ◌≡◌ {A = End} (Err Console) (Err Memory) = e in cc)) (p.cut refl) c
-run_answers o journal k (Err Memory) ended status is p c = spent c
+run_answers o journal k (Err Memory) ended ending is p c = spent c
 
-module _ (status : ℕ) (old new : HostView) (console console_now : SinkView) (j : HasJournalCauses status old new) (later : console.faults ≤ console_now.faults) where
-  causes_from : (status ≡ 9 → Rose console.faults console_now.faults) → (console.faults < console_now.faults → status ≡ 9) → HasCauses status old new console console_now
+module _ (ending : Ending) (old new : HostView) (console console_now : SinkView) (j : HasJournalCauses (ending_status ending) old new) (later : console.faults ≤ console_now.faults) where
+  causes_from : (ending_status ending ≡ 9 → Rose console.faults console_now.faults) → (console.faults < console_now.faults → ending_status ending ≡ 9) → HasCauses (ending_status ending) old new console console_now
   causes_from cause only = record {
     failed = j.failed;
     missing = λ e. absurd (j.none_missing.0 e);
@@ -78,44 +85,38 @@ module _ (status : ℕ) (old new : HostView) (console console_now : SinkView) (j
     later = (j.later, omega (arith, j.none_missing.1), later);
   }
 
-  not_nine : (w : Why) → HasStatus w status → status ≡ 9 → ⊥
-  not_nine why.Finished h e = omega (arith, h, e)
-  not_nine (why.Stopped cpu stop rip) h e = omega (arith, h, e)
-  not_nine why.Budget h e = omega (arith, h, e)
-  not_nine why.Outside h e = h
+  not_nine : (w : Why) → w ≢ why.Outside → why_status w ≡ 9 → ⊥
+  not_nine why.Finished h e = omega (arith, e)
+  not_nine (why.Stopped cpu stop rip) h e = omega (arith, e)
+  not_nine why.Budget h e = omega (arith, e)
+  not_nine why.Outside h e = h refl
 
   saves_no_nine : (o : Outside) (journal : Option (List ℕ)) (k : Kept) (ended : Option Why) → ended ≡ why_ended k.start k.journal
-      → IsPlayed o k (Ok tt) → closing.Saves o.host o.host_now journal k.journal ended status → status ≡ 9 → ⊥
+      → IsPlayed o k (Ok tt) → closing.Saves o.host o.host_now journal k.journal ended ending → ending_status ending ≡ 9 → ⊥
   saves_no_nine o journal k ended is p (closing.saved says keeps) e =
-      let known = end_known o k p in not_nine known.0 (says known.0 (is ∙ known.1) known.2) e
-  saves_no_nine o journal k ended is p (closing.refused name named told s) e = omega (arith, s, e)
-  saves_no_nine o journal k ended is p (closing.spent s) e = omega (arith, s, e)
+      let known = end_known o k p in
+      let same : ending ≡ how.Ran known.0 = says known.0 (is ∙ known.1) known.2 in
+      not_nine known.0 known.2 (sym (ap ending_status same) ∙ e)
+  saves_no_nine o journal k ended is p (closing.unsaved refusal s (inl (name, named, told, r))) e =
+      omega (arith, e, ap ending_status (s ∙ as_ending _ _ r))
+  saves_no_nine o journal k ended is p (closing.unsaved refusal s (inr r)) e = omega (arith, e, ap ending_status (s ∙ as_ending _ _ r))
 
   pub run_causes : (o : Outside) (journal : Option (List ℕ)) (k : Kept) (end : End) (ended : Option Why) → ended ≡ why_ended k.start k.journal
-      → IsPlayed o k end → closing.Closes o.host o.host_now journal k.journal ended end status
+      → IsPlayed o k end → closing.Closes o.host o.host_now journal k.journal ended end ending
       → (end ≡ Err Console → Rose console.faults console_now.faults) → (console.faults < console_now.faults → end ≡ Err Console)
-      → HasCauses status old new console console_now
+      → HasCauses (ending_status ending) old new console console_now
   run_causes o journal k (Ok x) ended is p c failed only =
       causes_from (λ e. absurd (saves_no_nine o journal k ended is p c e))
       (λ lt. absurd (let bad : ◌≡◌ {A = End} (Ok tt) (Err Console) = only lt in cc))
-  run_causes o journal k (Err Console) ended is p c failed only = causes_from (λ e. failed refl) (λ lt. c)
+  run_causes o journal k (Err Console) ended is p c failed only = causes_from (λ e. failed refl) (λ lt. ap ending_status c)
   run_causes o journal k (Err Memory) ended is p c failed only =
-      causes_from (λ e. absurd (omega (arith, c, e))) (λ lt. absurd (let bad : ◌≡◌ {A = End} (Err Memory) (Err Console) = only lt in cc))
+      causes_from (λ e. absurd (omega (arith, ap ending_status c, e))) (λ lt. absurd (let bad : ◌≡◌ {A = End} (Err Memory) (Err Console) = only lt in cc))
 
--- the host refused a journal
-named_some : (journal : Option (List ℕ)) (host : HostView) → IsNamedSome journal host → (name : List ℕ) × (journal ≡ Some name) × IsNamed name host
-named_some None host h = absurd h
-named_some (Some name) host h = (name, refl, h)
-
-pub refused_closes : (old new : HostView) (journal : Option (List ℕ)) (history : List Signed) (ended : Option Why) (end : End) (fault : HostFault) (status : ℕ) → end ≡ Ok tt
-    → status ≡ fault_status (after_host fault) → (IsErrOf {T = Unit {0}} (Err fault) host.Failed → IsNamedSome journal new) → (IsErrOf {T = Unit {0}} (Err fault) host.Missing → ⊥)
-    → closing.Closes old new journal history ended end status
-refused_closes old new journal history ended end host.Missing status is e named none = absurd (none refl)
-refused_closes old new journal history ended end host.Failed status is e named none =
-    let told = named_some journal new (named refl) in
-    subst (λ (r : End). closing.Closes old new journal history ended r status) (sym is) (closing.refused told.0 told.1 told.2 e)
-refused_closes old new journal history ended end host.Memory status is e named none =
-    subst (λ (r : End). closing.Closes old new journal history ended r status) (sym is) (closing.spent e)
+-- a journal that isn't saved
+pub unsaved_closes : (old new : HostView) (journal : Option (List ℕ)) (history : List Signed) (ended : Option Why) (end : End) (refusal : Refusal) → end ≡ Ok tt
+    → closing.IsUnsaved journal new refusal → closing.Closes old new journal history ended end (how.Refused refusal)
+unsaved_closes old new journal history ended end refusal is un =
+    subst (λ (r : End). closing.Closes old new journal history ended r (how.Refused refusal)) (sym is) (closing.unsaved refusal refl un)
 
 -- ---- the start was read before
 
@@ -123,25 +124,31 @@ saved_moved : (old mid new : HostView) (journal : Option (List ℕ)) (history : 
 saved_moved old mid new None history same s = s
 saved_moved old mid new (Some name) history same s = λ told. s (same ∙ told)
 
-moved : (old mid new : HostView) (console console_now : SinkView) (journal : Option (List ℕ)) (status : ℕ) (kept : Option Kept) → mid.tells ≡ old.tells
-    → RunAnswers (outside mid new console console_now) journal status kept → RunAnswers (outside old new console console_now) journal status kept
-moved old mid new console console_now journal status kept same (ran k is r w e h s) =
+moved : (old mid new : HostView) (console console_now : SinkView) (journal : Option (List ℕ)) (ending : Ending) (kept : Option Kept) → mid.tells ≡ old.tells
+    → RunAnswers (outside mid new console console_now) journal ending kept → RunAnswers (outside old new console console_now) journal ending kept
+moved old mid new console console_now journal ending kept same (ran k is r w e h s) =
     ran k is (record { solo = r.solo; closed = r.closed; no_fault = r.no_fault; wrote = r.wrote }) w e h (saved_moved old mid new journal k.journal same s)
-moved old mid new console console_now journal status kept same (unsaved k is r name named told e) =
+moved old mid new console console_now journal ending kept same (unsaved k is r name named told e) =
     unsaved k is (record { solo = r.solo; closed = r.closed; no_fault = r.no_fault; wrote = r.wrote }) name named told e
-moved old mid new console console_now journal status kept same (unwritten k is closed cut e) = unwritten k is closed cut e
-moved old mid new console console_now journal status kept same (spent e) = spent e
+moved old mid new console console_now journal ending kept same (unwritten k is closed cut e) = unwritten k is closed cut e
+moved old mid new console console_now journal ending kept same (spent e) = spent e
 
-pub solo_began : (old mid new : HostView) (console console_now : SinkView) (image : List ℕ) (journal : Option (List ℕ)) (status : ℕ) (kept : Option Kept) → mid.tells ≡ old.tells
-    → RunAnswers (outside mid new console console_now) journal status kept → SoloAnswers (outside old new console console_now) image journal status kept
-solo_began old mid new console console_now image journal status kept same answers = began (moved old mid new console console_now journal status kept same answers)
+pub solo_began : (old mid new : HostView) (console console_now : SinkView) (w : RunWords) (journal : Option (List ℕ)) (ending : Ending) (kept : Option Kept) → mid.tells ≡ old.tells → journal ≡ w.journal
+    → RunAnswers (outside mid new console console_now) journal ending kept → SoloAnswers (outside old new console console_now) w ending kept
+solo_began old mid new console console_now w journal ending kept same is answers =
+    began (moved old mid new console console_now w.journal ending kept same (subst (λ (j : Option (List ℕ)). RunAnswers (outside mid new console console_now) j ending kept) is answers))
 
 -- a file that gives no start
-pub no_start : (old new : HostView) (console console_now : SinkView) (image : List ℕ) (journal : Option (List ℕ)) (fault : Fault) (status : ℕ) → status ≡ fault_status fault
-    → Reads {X = Start} old.tells (old.file image) IsStart (Err fault) → HasHostCauses image (fault_status fault) old new
-    → SoloAnswers (outside old new console console_now) image journal status None
-no_start old new console console_now image journal Refused status is reads causes = answer.refused refl reads is
-no_start old new console console_now image journal Missing status is reads causes = answer.missing refl reads is
-no_start old new console console_now image journal Failed status is reads causes = answer.unread refl (causes.named refl) is
-no_start old new console console_now image journal MemoryFault status is reads causes = began (spent is)
-no_start old new console console_now image journal ConsoleFault status is reads causes = absurd reads
+pub no_start : (old new : HostView) (console console_now : SinkView) (w : RunWords) (refusal : Refusal)
+    → Unread old.tells (old.file w.file) roles.Image w.file (IsStart w.limit) IsImageFault refusal → HasHostCauses w.file (status_of refusal) old new
+    → SoloAnswers (outside old new console console_now) w (how.Refused refusal) None
+no_start old new console console_now w refusal (files.bad at kind is refused) causes = answer.refused refl at kind refused (as_ending _ _ is)
+no_start old new console console_now w refusal (files.missing is gone) causes = answer.missing refl gone (as_ending _ _ is)
+no_start old new console console_now w refusal (files.failed is) causes = answer.unread refl (causes.named (ap status_of is)) (as_ending _ _ is)
+no_start old new console console_now w refusal (files.spent is) causes = began (spent (as_ending _ _ is))
+
+-- a file that is named twice
+pub twice_run : (o : Outside) (w : RunWords) (ending : Ending) (kept : Option Kept) (start : Start) → kept ≡ None → IsAgain w.file w.journal
+    → IsFileOf o.host.tells (o.host.file w.file) (IsStart w.limit) start → IsSecond w.file ending → SoloAnswers o w ending kept
+twice_run o w ending kept start none same file (inl is) = answer.twice none same start file is
+twice_run o w ending kept start none same file (inr is) = began (spent is)

@@ -1,91 +1,160 @@
--- From the answers of `solo` and `replay` to those of a command.
-use Rattle.std.proofs.Common.{◌≡◌, ℕ, true, List, Option, Some, None, IfSome, Contains, sym, subst, ◌∙◌}
+-- From what the parts of a command do to what the command does.
+use Rattle.std.proofs.Common.{◌≡◌, inl, inr, ℕ, true, List, Option, Some, None, IfSome, IfNone, IsNone, Contains, refl, sym, subst, ◌∙◌, arith}
+use Rattle.vm_cmd.specs.Word.{Word}
+use Rattle.vm_cmd.specs.declared.command.Command.{Command}
+use Rattle.vm_cmd.specs.declared.command.Command.TheVariants.{Run, Solo, Replay, Show, Asm, Make, Convert, Arrive, Inspect}
+use Rattle.vm_cmd.specs.declared.command.RunWords.{RunWords}
+use Rattle.vm_host.specs.Crash.{SinceEarlier}
+use Rattle.vm_host.specs.Leaves.{ReadsHost, TakesSome}
+use Rattle.vm_host.specs.Views.{HostView, SinkView}
+use Rattle.vm_host.proofs.Frames.{reads_itself}
 use Rattle.vm_machine.specs.History.{IsLegal}
-use Rattle.vm_run.specs.declared.command.Command.{Command}
-use Rattle.vm_run.specs.declared.command.Command.TheVariants.{Solo, Replay}
-use Rattle.vm_run.specs.declared.outcome.Kept.{Kept}
-use Rattle.vm_host.specs.Leaves.{ReadsHost}
-use Rattle.vm_host.specs.Views.{HostView}
 use Rattle.vm_machine.specs.Turns.{IsOrderly}
-use Rattle.vm_run.specs.Words.{IsTwice}
-use Rattle.vm_run.specs.Answer.{Outside, IsRunOf, IsOrderlyOf, ChangesOnly, Changes, SoloAnswers, ReplayAnswers, Answers, CanDo, MustRefuse, done_statuses, refused_statuses}
-use Rattle.vm_run.specs.Ends.{HasCauses, NoneRose}
+use Rattle.vm_run.specs.declared.outcome.Ending.{Ending}
+use Rattle.vm_run.specs.declared.outcome.Ending.TheVariants as how
+use Rattle.vm_run.specs.declared.outcome.Kept.{Kept}
+use Rattle.vm_run.specs.Answer as answer
+use Rattle.vm_run.specs.Answer.{Outside, outside, sent_in, IsRunOf, IsOrderlyOf, ChangesOnly, Changes, SoloAnswers, ReplayAnswers, Answers, CanDo, MustRefuse, Does, done_statuses, refused_statuses}
+use Rattle.vm_run.specs.Ends.{ending_status, HasCauses}
 use Rattle.vm_run.specs.Files.{IsFileOf}
 use Rattle.vm_run.specs.Starting.{IsStart}
-use Rattle.vm_run.proofs.Frames.{if_some}
-use Rattle.vm_run.proofs.Completes.{solo_completes, solo_refuses, replay_completes, replay_refuses}
+use Rattle.vm_run.specs.Words.{unbuilt, unbuilt_option, IsLater, IsAgain}
+use Rattle.vm_run.proofs.Frames.{changes_itself, if_some, no_causes}
+use Rattle.vm_run.proofs.Completes.{solo_known, solo_completes, solo_refuses, replay_known, replay_completes, replay_refuses}
+use Rattle.vm_status.specs.declared.refusal.Refusal.TheVariants.{Memory}
 
-starts : (o : Outside) (image : List ℕ) (kept : Option Kept) → IfSome kept (λ k. IsRunOf o.host image k) → IfSome kept (λ k. IsFileOf o.host.tells (o.host.file image) IsStart k.start)
-starts o image kept = if_some (λ k. IsRunOf o.host image k) (λ k. IsFileOf o.host.tells (o.host.file image) IsStart k.start) kept (λ k h. h.start)
+starts : (host : HostView) (w : RunWords) (kept : Option Kept) → IfSome kept (λ k. IsRunOf host w k) → IfSome kept (λ k. IsFileOf host.tells (host.file w.file) (IsStart w.limit) k.start)
+starts host w kept = if_some (λ k. IsRunOf host w k) (λ k. IsFileOf host.tells (host.file w.file) (IsStart w.limit) k.start) kept (λ k h. h.start)
 
-legals : (o : Outside) (image : List ℕ) (kept : Option Kept) → IfSome kept (λ k. IsRunOf o.host image k) → IfSome kept (λ k. IsLegal k.start k.journal)
-legals o image kept = if_some (λ k. IsRunOf o.host image k) (λ k. IsLegal k.start k.journal) kept (λ k h. h.legal)
+legals : (host : HostView) (w : RunWords) (kept : Option Kept) → IfSome kept (λ k. IsRunOf host w k) → IfSome kept (λ k. IsLegal k.start k.journal)
+legals host w kept = if_some (λ k. IsRunOf host w k) (λ k. IsLegal k.start k.journal) kept (λ k h. h.legal)
 
-module _ (o : Outside) (status : ℕ) (kept : Option Kept) (command : Command) (file image : List ℕ) (same : image ≡ file) where
-  module _ (journal name : Option (List ℕ)) (is : command ≡ Solo file journal) (same_name : name ≡ journal) (answers : SoloAnswers o image name status kept) where
-    there : SoloAnswers o file journal status kept
-    there =
-        subst (λ (n : Option (List ℕ)). SoloAnswers o file n status kept) same_name
-        (subst (λ (i : List ℕ). SoloAnswers o i name status kept) same answers)
+always : (kept : Option Kept) → IfSome kept (λ k. Unit {0})
+always None = tt
+always (Some k) = tt
 
-    pub solo_answers : Answers command o status kept
-    solo_answers = subst (λ (x : Command). Answers x o status kept) (sym is) there
+reads_none : (kept : Option Kept) (old new : HostView) → ReadsHost old new → IfNone kept (ReadsHost old new)
+reads_none None old new h = h
+reads_none (Some k) old new h = tt
 
-    pub solo_complete : HasCauses status o.host o.host_now o.console o.console_now → o.host.tells ≡ true → CanDo o.host.file command → NoneRose o.host o.host_now o.console o.console_now → Contains (done_statuses command) status
-    solo_complete causes told can calm =
-        subst (λ (x : Command). Contains (done_statuses x) status) (sym is)
-        (solo_completes o status kept told causes calm file journal
-        (subst (λ (x : Command). CanDo o.host.file x) is can) there)
+module _ {A B : Type 0} (see : A → HostView) (watch : B → SinkView) (host host_now : A) (console console_now : B) (ending : Ending) (kept : Option Kept) where
+  abbrev views : Outside
+  views = outside (see host) (see host_now) (watch console) (watch console_now)
 
-    pub solo_refused : IfSome kept (λ k. IsRunOf o.host image k) → o.host.tells ≡ true → MustRefuse o.host.file command → Contains refused_statuses status
-    solo_refused run told must =
-        solo_refuses o status kept told file (subst (λ (i : List ℕ). IfSome kept (λ k. IsFileOf o.host.tells (o.host.file i) IsStart k.start)) same (starts o image kept run)) journal
-        (subst (λ (x : Command). MustRefuse o.host.file x) is must) there
+  module _ (causes : HasCauses (ending_status ending) (see host) (see host_now) (watch console) (watch console_now))
+      (console_part : IfSome kept (λ k. TakesSome (sent_in k) (watch console) (watch console_now))) (silent : IfNone kept (console_now ≡ console)) where
+    pub solo_does : (w : RunWords) → unbuilt_option w ≡ None → SoloAnswers views w ending kept → IfSome kept (λ k. IsRunOf (see host) w k)
+        → IfSome kept (λ k. IsOrderly k.start k.journal) → (IsAgain w.file w.journal → IsNone kept)
+        → ChangesOnly w.journal (see host) (see host_now) → IfNone kept (ReadsHost (see host) (see host_now))
+        → Does see watch (Solo w) host host_now console console_now ending kept
+    solo_does w built answers run orderly again files still = record {
+      status = solo_known views ending kept w answers;
+      answers = answer.ran_solo w refl built answers;
+      kept_run = run;
+      history = orderly;
+      twice = again;
+      console_part = console_part;
+      silent = silent;
+      files = files;
+      still = still;
+      causes = causes;
+      completeness = λ told can calm. solo_completes views ending kept told causes calm w can answers;
+      refusal = λ told must. solo_refuses views ending kept told w (starts (see host) w kept run) must answers;
+    }
 
-  module _ (journal name : List ℕ) (is : command ≡ Replay file journal) (same_name : name ≡ journal) (answers : ReplayAnswers o image name status kept) where
-    here : ReplayAnswers o file journal status kept
-    here =
-        subst (λ (n : List ℕ). ReplayAnswers o file n status kept) same_name
-        (subst (λ (i : List ℕ). ReplayAnswers o i name status kept) same answers)
+    pub replay_does : (w : RunWords) (journal : Word) → unbuilt_option w ≡ None → ReplayAnswers views w journal ending kept → IfSome kept (λ k. IsRunOf (see host) w k)
+        → (w.file ≡ journal → IsNone kept) → ReadsHost (see host) (see host_now)
+        → Does see watch (Replay w journal) host host_now console console_now ending kept
+    replay_does w journal built answers run again files = record {
+      status = replay_known views ending kept w journal answers;
+      answers = answer.ran_replay w journal refl built answers;
+      kept_run = run;
+      history = always kept;
+      twice = again;
+      console_part = console_part;
+      silent = silent;
+      files = files;
+      still = reads_none kept (see host) (see host_now) files;
+      causes = causes;
+      completeness = λ told can calm. replay_completes views ending kept told causes calm w journal (starts (see host) w kept run) can answers;
+      refusal = λ told must. replay_refuses views ending kept told w (starts (see host) w kept run) (legals (see host) w kept run) journal must answers;
+    }
 
-    pub replay_answers : Answers command o status kept
-    replay_answers = subst (λ (x : Command). Answers x o status kept) (sym is) here
+-- ---- what touches neither host nor console
 
-    module _ (run : IfSome kept (λ k. IsRunOf o.host image k)) where
-      begins : IfSome kept (λ k. IsFileOf o.host.tells (o.host.file file) IsStart k.start)
-      begins = subst (λ (i : List ℕ). IfSome kept (λ k. IsFileOf o.host.tells (o.host.file i) IsStart k.start)) same (starts o image kept run)
+itself : (c : Command) (a : HostView) → (a.tells ≡ true → SinceEarlier a.left) → Changes c a a
+itself (Solo w) a earlier = changes_itself w.journal a earlier
+itself (Replay w journal) a earlier = reads_itself a earlier
+itself (Run w) a earlier = reads_itself a earlier
+itself (Show config) a earlier = reads_itself a earlier
+itself (Asm file out) a earlier = reads_itself a earlier
+itself (Make cpus number) a earlier = reads_itself a earlier
+itself (Convert file out) a earlier = reads_itself a earlier
+itself (Arrive file out) a earlier = reads_itself a earlier
+itself (Inspect w i) a earlier = reads_itself a earlier
 
-      pub replay_complete : HasCauses status o.host o.host_now o.console o.console_now → o.host.tells ≡ true → CanDo o.host.file command → NoneRose o.host o.host_now o.console o.console_now → Contains (done_statuses command) status
-      replay_complete causes told can calm =
-          subst (λ (x : Command). Contains (done_statuses x) status) (sym is)
-          (replay_completes o status kept told causes calm file journal begins
-          (subst (λ (x : Command). CanDo o.host.file x) is can) here)
+module _ {A B : Type 0} (see : A → HostView) (watch : B → SinkView) (host : A) (console : B) (earlier : (see host).tells ≡ true → SinceEarlier (see host).left) where
+  spent_done : (c : Command) → Contains (done_statuses c) 71
+  spent_done (Solo w) = (3, omega arith, refl)
+  spent_done (Replay w journal) = (1, omega arith, refl)
+  spent_done (Run w) = (1, omega arith, refl)
+  spent_done (Show config) = (1, omega arith, refl)
+  spent_done (Asm file out) = (1, omega arith, refl)
+  spent_done (Make cpus number) = (1, omega arith, refl)
+  spent_done (Convert file out) = (1, omega arith, refl)
+  spent_done (Arrive file out) = (1, omega arith, refl)
+  spent_done (Inspect w i) = (1, omega arith, refl)
 
-      pub replay_refused : o.host.tells ≡ true → MustRefuse o.host.file command → Contains refused_statuses status
-      replay_refused told must =
-          replay_refuses o status kept told file begins (legals o image kept run) journal (subst (λ (x : Command). MustRefuse o.host.file x) is must) here
+  -- what isn't built can't be done
+  not_built : (files : List ℕ → Option (List ℕ)) (c : Command) (word : Word) → unbuilt c ≡ Some word → CanDo files c → ⊥
+  not_built files (Solo w) word is can = let e : None ≡ Some word = sym can.0 ∙ is in cc
+  not_built files (Replay w journal) word is can = let e : None ≡ Some word = sym can.0 ∙ is in cc
+  not_built files (Run w) word is can = can
+  not_built files (Show config) word is can = can
+  not_built files (Asm file out) word is can = can
+  not_built files (Make cpus number) word is can = can
+  not_built files (Convert file out) word is can = can
+  not_built files (Arrive file out) word is can = can
+  not_built files (Inspect w i) word is can = can
 
--- ---- what a command's parts say of the command
+  -- want of memory before anything was done
+  pub spent_does : (c : Command) (ending : Ending) (kept : Option Kept) → kept ≡ None → ending ≡ how.Refused Memory → Does see watch c host host console console ending kept
+  spent_does c ending kept none is =
+      subst (λ (k : Option Kept). Does see watch c host host console console ending k) (sym none)
+      (subst (λ (e : Ending). Does see watch c host host console console e None) (sym is)
+      (record {
+        status = (7, omega arith, refl);
+        answers = answer.spent refl;
+        kept_run = tt;
+        history = tt;
+        twice = λ t. refl;
+        console_part = tt;
+        silent = refl;
+        files = itself c (see host) earlier;
+        still = reads_itself (see host) earlier;
+        causes = no_causes 71 (see host) (watch console) (λ e. omega (arith, e)) (λ e. omega (arith, e)) (λ e. omega (arith, e));
+        completeness = λ told can calm. spent_done c;
+        refusal = λ told must. (2, omega arith, refl);
+      }))
 
-module _ (command : Command) (file image : List ℕ) (same : image ≡ file) where
-  module _ (journal name : Option (List ℕ)) (is : command ≡ Solo file journal) (same_name : name ≡ journal) where
-    pub solo_changes : (old new : HostView) → ChangesOnly name old new → Changes command old new
-    solo_changes old new h = subst (λ (x : Command). Changes x old new) (sym is) (subst (λ (n : Option (List ℕ)). ChangesOnly n old new) same_name h)
-
-    pub solo_twice : (P : Type 0) → (IsTwice (Solo image name) → P) → IsTwice command → P
-    solo_twice P h t =
-        h (subst (λ (i : List ℕ). IsTwice (Solo i name)) (sym same) (subst (λ (n : Option (List ℕ)). IsTwice (Solo file n)) (sym same_name) (subst (λ (x : Command). IsTwice x) is t)))
-
-    pub solo_orderly : (kept : Option Kept) → IfSome kept (λ k. IsOrderly k.start k.journal) → IfSome kept (λ k. IsOrderlyOf command k)
-    solo_orderly kept = if_some (λ k. IsOrderly k.start k.journal) (λ k. IsOrderlyOf command k) kept (λ k h. subst (λ (x : Command). IsOrderlyOf x k) (sym is) h)
-
-  module _ (journal name : List ℕ) (is : command ≡ Replay file journal) (same_name : name ≡ journal) where
-    pub replay_changes : (old new : HostView) → ReadsHost old new → Changes command old new
-    replay_changes old new h = subst (λ (x : Command). Changes x old new) (sym is) h
-
-    pub replay_twice : (P : Type 0) → (image ≡ name → P) → IsTwice command → P
-    replay_twice P h t = h (same ∙ subst (λ (x : Command). IsTwice x) is t ∙ sym same_name)
-
-    pub replay_orderly : (kept : Option Kept) → IfSome kept (λ k. IsOrderlyOf command k)
-    replay_orderly None = tt
-    replay_orderly (Some k) = subst (λ (x : Command). IsOrderlyOf x k) (sym is) tt
+  -- what isn't built yet
+  pub later_does : (c : Command) (word : Word) (ending : Ending) (kept : Option Kept) → unbuilt c ≡ Some word → kept ≡ None → IsLater word ending
+      → Does see watch c host host console console ending kept
+  later_does c word ending kept un none (inr is) = spent_does c ending kept none is
+  later_does c word ending kept un none (inl is) =
+      subst (λ (k : Option Kept). Does see watch c host host console console ending k) (sym none)
+      (subst (λ (e : Ending). Does see watch c host host console console e None) (sym is)
+      (record {
+        status = (1, omega arith, refl);
+        answers = answer.unbuilt_yet word un refl refl;
+        kept_run = tt;
+        history = tt;
+        twice = λ t. refl;
+        console_part = tt;
+        silent = refl;
+        files = itself c (see host) earlier;
+        still = reads_itself (see host) earlier;
+        causes = no_causes 3 (see host) (watch console) (λ e. omega (arith, e)) (λ e. omega (arith, e)) (λ e. omega (arith, e));
+        completeness = λ told can calm. absurd (not_built (see host).file c word un can);
+        refusal = λ told must. (0, omega arith, refl);
+      }))

@@ -1,70 +1,39 @@
--- The status of each fault, and the counts of refusals behind them. Source of 71: EX_OSERR of sysexits(3).
-use Rattle.std.specs.Prelude.{◌≡◌, ◌≢◌, ℕ, ◌<◌, ◌≤◌, ◌⊎◌, List, take, Option, Some, None, Result, Ok, Err, IsErrOf}
-use Rattle.ckpt_store.specs.declared.loading.LoadFault.{LoadFault}
-use Rattle.ckpt_store.specs.declared.loading.LoadFault.TheVariants as loading
-use Rattle.vm_host.specs.declared.host.HostFault.{HostFault}
-use Rattle.vm_host.specs.declared.host.HostFault.TheVariants as host
+-- The status of each ending, and the counts of refusals behind it.
+use Rattle.std.specs.Prelude.{◌≡◌, ◌≢◌, ℕ, ◌<◌, ◌≤◌, ◌⊎◌, List, take, Result, Ok, Err}
 use Rattle.vm_host.specs.Counts.{Rose}
 use Rattle.vm_host.specs.Views.{HostView, SinkView}
-use Rattle.vm_image.specs.declared.error.ImageError.{ImageError}
-use Rattle.vm_image.specs.declared.error.ImageError.TheVariants as image
-use Rattle.vm_journal.specs.declared.fault.JournalError.{JournalError}
-use Rattle.vm_journal.specs.declared.fault.JournalError.TheVariants as journal
 use Rattle.vm_machine.specs.declared.state.Why.{Why}
 use Rattle.vm_machine.specs.declared.state.Why.TheVariants as why
-use Rattle.vm_run.specs.declared.ending.Fault.{Fault}
-use Rattle.vm_run.specs.declared.ending.Fault.TheVariants.{Refused, Failed, Missing, Console, Memory}
+use Rattle.vm_run.specs.declared.outcome.Ending.{Ending}
+use Rattle.vm_run.specs.declared.outcome.Ending.TheVariants.{Done, Ran, Refused}
+use Rattle.vm_status.specs.Lines.{status_of}
+use Rattle.vm_status.specs.declared.refusal.Refusal.{Refusal}
 
-abbrev pub fault_status : Fault → ℕ
-fault_status Refused = 3
-fault_status Failed = 6
-fault_status Missing = 7
-fault_status Console = 9
-fault_status Memory = 71
+-- the status of a run that ended so, where nothing outside failed; 9 where the outside ended it
+abbrev pub why_status : Why → ℕ
+why_status why.Finished = 0
+why_status (why.Stopped cpu stop rip) = 4
+why_status why.Budget = 5
+why_status why.Outside = 9
 
--- the status of a run that ended so, where nothing outside failed; none where the outside ended it
-abbrev pub HasStatus : Why → ℕ → Type 0
-HasStatus why.Finished status = status ≡ 0
-HasStatus (why.Stopped cpu stop rip) status = status ≡ 4
-HasStatus why.Budget status = status ≡ 5
-HasStatus why.Outside status = ⊥
+abbrev pub ending_status : Ending → ℕ
+ending_status Done = 0
+ending_status (Ran why) = why_status why
+ending_status (Refused refusal) = status_of refusal
 
-abbrev pub after_host : HostFault → Fault
-after_host host.Missing = Missing
-after_host host.Failed = Failed
-after_host host.Memory = Memory
-
--- a file that is longer than its limit is refused
-abbrev pub after_load : LoadFault → Fault
-after_load (loading.Host fault) = after_host fault
-after_load loading.Long = Refused
-
-abbrev pub after_image : ImageError → Fault
-after_image (image.Fault at kind) = Refused
-after_image image.Memory = Memory
-
-abbrev pub after_decode : JournalError → Fault
-after_decode (journal.Fault at kind) = Refused
-after_decode journal.Memory = Memory
-
--- the status of a fault; 0 where there is none
-abbrev pub status_of : {X : Type 0} → Result X Fault → ℕ
-status_of (Ok x) = 0
-status_of (Err fault) = fault_status fault
+-- the status of a refusal; 0 where there is none
+abbrev pub result_status : {X : Type 0} → Result X Refusal → ℕ
+result_status (Ok x) = 0
+result_status (Err refusal) = status_of refusal
 
 -- the host's last failure was one on the file of this name, of which it tells at most 4,096 bytes
 abbrev pub IsNamed : List ℕ → HostView → Type 0
 IsNamed name host = host.failed ≡ take 4096 name
 
--- the same of the file of a name that there is
-abbrev pub IsNamedSome : Option (List ℕ) → HostView → Type 0
-IsNamedSome None host = ⊥
-IsNamedSome (Some name) host = IsNamed name host
-
--- the counts of a host over a call that may fail, on whatever file
-pub record HasCounts {T : Type 0} (old new : HostView) (result : Result T HostFault) : Type 0 where
-  pub failed : IsErrOf result host.Failed → Rose old.faults new.faults
-  pub only_failed : old.faults < new.faults → IsErrOf result host.Failed
+-- the counts of a host over the writing of a journal
+pub record HasSaveCauses (status : ℕ) (old new : HostView) : Type 0 where
+  pub failed : status ≡ 6 → Rose old.faults new.faults
+  pub only_failed : old.faults < new.faults → status ≡ 6
   pub later : old.faults ≤ new.faults
   pub misses : new.misses ≡ old.misses
 

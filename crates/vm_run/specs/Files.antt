@@ -1,10 +1,17 @@
 -- Files as a command reads them. `told`: the host tells its files.
-use Rattle.std.specs.Prelude.{◌≡◌, ℕ, ◌≤◌, ◌^◌, Bool, List, length, Option, Some, None, Result, Ok, Err}
+use Rattle.std.specs.Prelude.{◌≡◌, ◌⊎◌, ℕ, ◌≤◌, ◌<◌, ◌^◌, Bool, List, length, Option, Some, None, Result, Ok, Err}
+use Rattle.byte_reader.specs.Fixed.{IsFault}
 use Rattle.vm_law.specs.declared.journal.Signed.{Signed}
 use Rattle.vm_host.specs.Told.{WhereTold}
 use Rattle.vm_journal.specs.Spelling.{spelling, AreEntries}
-use Rattle.vm_run.specs.declared.ending.Fault.{Fault}
-use Rattle.vm_run.specs.declared.ending.Fault.TheVariants.{Refused, Failed, Missing, Console, Memory}
+use Rattle.vm_journal.specs.Reading.{whole}
+use Rattle.vm_journal.specs.declared.fault.JournalKind.{JournalKind}
+use Rattle.vm_run.specs.Refusing.{journal_kind}
+use Rattle.vm_status.specs.declared.kind.Kind.{Kind}
+use Rattle.vm_status.specs.declared.kind.Kind.TheVariants.{Long}
+use Rattle.vm_status.specs.declared.refusal.Refusal.{Refusal}
+use Rattle.vm_status.specs.declared.refusal.Refusal.TheVariants.{Bad, HostFault, Missing, Memory}
+use Rattle.vm_status.specs.declared.role.Role.{Role}
 
 -- the file of a journal has at most 4 GiB
 abbrev pub journal_limit : ℕ
@@ -15,6 +22,12 @@ pub record IsJournal (bytes : List ℕ) (journal : List Signed) : Type 0 where
   pub short : length bytes ≤ journal_limit
   pub fits : AreEntries journal
   pub spelled : bytes ≡ spelling journal
+
+-- the first fault of bytes that are no journal: they are too many, or what reading them from left to right meets
+abbrev pub IsJournalFault : List ℕ → ℕ → Kind → Type 0
+IsJournalFault bytes at kind =
+    ((journal_limit < length bytes) × (at ≡ journal_limit) × (kind ≡ Long))
+    ⊎ ((k : JournalKind) × IsFault (length bytes) at k (whole bytes) × (kind ≡ journal_kind k))
 
 -- the bytes are those of the file, where its host tells them
 abbrev pub IsFile : Bool → Option (List ℕ) → List ℕ → Type 0
@@ -33,11 +46,21 @@ module _ {X : Type 0} where
     pub is_file : IsFile told file bytes
     pub none : (x : X) → Means bytes x → ⊥
 
-  -- what reading a file answers
-  abbrev pub Reads : Bool → Option (List ℕ) → (List ℕ → X → Type 0) → Result X Fault → Type 0
-  Reads told file Means (Ok x) = IsFileOf told file Means x
-  Reads told file Means (Err Refused) = IsRefused told file Means
-  Reads told file Means (Err Missing) = WhereTold told (file ≡ None)
-  Reads told file Means (Err Failed) = Unit {0}
-  Reads told file Means (Err Memory) = Unit {0}
-  Reads told file Means (Err Console) = ⊥
+  -- the file's bytes mean nothing, and this is their first fault
+  pub record IsRefusedAt (told : Bool) (file : Option (List ℕ)) (Means : List ℕ → X → Type 0) (IsFirst : List ℕ → ℕ → Kind → Type 0) (at : ℕ) (kind : Kind) : Type 0 where
+    pub bytes : List ℕ
+    pub is_file : IsFile told file bytes
+    pub none : (x : X) → Means bytes x → ⊥
+    pub first : IsFirst bytes at kind
+
+  -- why a file of this name wasn't read
+  pub data Unread (told : Bool) (file : Option (List ℕ)) (role : Role) (name : List ℕ) (Means : List ℕ → X → Type 0) (IsFirst : List ℕ → ℕ → Kind → Type 0) (refusal : Refusal) : Type 0 where
+    bad : (at : ℕ) (kind : Kind) → refusal ≡ Bad role name at kind → IsRefusedAt told file Means IsFirst at kind → Unread told file role name Means IsFirst refusal
+    missing : refusal ≡ Missing name → WhereTold told (file ≡ None) → Unread told file role name Means IsFirst refusal
+    failed : refusal ≡ HostFault name → Unread told file role name Means IsFirst refusal
+    spent : refusal ≡ Memory → Unread told file role name Means IsFirst refusal
+
+  -- what reading a file of this name answers
+  abbrev pub Reads : Bool → Option (List ℕ) → Role → List ℕ → (List ℕ → X → Type 0) → (List ℕ → ℕ → Kind → Type 0) → Result X Refusal → Type 0
+  Reads told file role name Means IsFirst (Ok x) = IsFileOf told file Means x
+  Reads told file role name Means IsFirst (Err refusal) = Unread told file role name Means IsFirst refusal

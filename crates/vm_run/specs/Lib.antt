@@ -4,7 +4,7 @@ pub mod Closing
 pub mod Cut
 pub mod Ends
 pub mod Files
-pub mod Reading
+pub mod Refusing
 pub mod Single
 pub mod Starting
 pub mod Words

@@ -1,37 +1,55 @@
--- The words of the command line, without the program's name.
-use Rattle.std.specs.Prelude.{◌≡◌, ◌≢◌, ℕ, List, [], ◌∷◌, Some, None, codes, slice_index}
-use Rattle.vm_run.specs.declared.command.Command.{Command}
-use Rattle.vm_run.specs.declared.command.Command.TheVariants.{Solo, Replay}
+-- What the words of a command line ask for, and what of it isn't built yet.
+use Rattle.std.specs.Prelude.{◌≡◌, ◌≤◌, ◌⊎◌, Option, Some, None, is_some, codes, if◌then◌else◌}
+use Rattle.vm_cmd.specs.Word.{Word}
+use Rattle.vm_cmd.specs.declared.command.Command.{Command}
+use Rattle.vm_cmd.specs.declared.command.Command.TheVariants.{Run, Solo, Replay, Show, Asm, Make, Convert, Arrive, Inspect}
+use Rattle.vm_cmd.specs.declared.command.RunWords.{RunWords}
+use Rattle.vm_run.specs.declared.outcome.Ending.{Ending}
+use Rattle.vm_run.specs.declared.outcome.Ending.TheVariants.{Refused}
+use Rattle.vm_status.specs.declared.kind.Kind.TheVariants as kinds
+use Rattle.vm_status.specs.declared.refusal.Refusal.TheVariants.{Bad, Memory}
+use Rattle.vm_status.specs.declared.role.Role.TheVariants as roles
 
--- a word that may be a file's name: it isn't empty and doesn't begin with `-`
-pub record IsName (word : List ℕ) : Type 0 where
-  pub some : word ≢ []
-  pub no_option : slice_index word 0 ≢ 45
+-- the first option that isn't built yet
+abbrev pub unbuilt_option : RunWords → Option Word
+unbuilt_option w = if is_some w.restore then Some (codes "--restore") else if w.state then Some (codes "--state") else None
 
--- the file of the image that a command runs or replays
-abbrev pub image_name : Command → List ℕ
-image_name (Solo file journal) = file
-image_name (Replay file journal) = file
+-- the command or the option that isn't built yet
+abbrev pub unbuilt : Command → Option Word
+unbuilt (Solo w) = unbuilt_option w
+unbuilt (Replay w journal) = unbuilt_option w
+unbuilt (Run w) = Some (codes "run")
+unbuilt (Show config) = Some (codes "show")
+unbuilt (Asm file out) = Some (codes "asm")
+unbuilt (Make cpus number) = Some (codes "make")
+unbuilt (Convert file out) = Some (codes "convert")
+unbuilt (Arrive file out) = Some (codes "arrive")
+unbuilt (Inspect w i) = Some (codes "inspect")
 
--- the words of a command
-abbrev pub words_of : Command → List (List ℕ)
-words_of (Solo file None) = codes "solo" ∷ file ∷ []
-words_of (Solo file (Some journal)) = codes "solo" ∷ file ∷ codes "--journal" ∷ journal ∷ []
-words_of (Replay file journal) = codes "replay" ∷ file ∷ journal ∷ []
+-- refused as not built yet, or for want of memory
+abbrev pub IsLater : Word → Ending → Type 0
+IsLater word ending = (ending ≡ Refused (Bad roles.Start word 0 kinds.Later)) ⊎ (ending ≡ Refused Memory)
 
--- each file that a command names has a name
-abbrev pub AreNames : Command → Type 0
-AreNames (Solo file None) = IsName file
-AreNames (Solo file (Some journal)) = IsName file × IsName journal
-AreNames (Replay file journal) = IsName file × IsName journal
+-- refused as named twice, or for want of memory
+abbrev pub IsSecond : Word → Ending → Type 0
+IsSecond name ending = (ending ≡ Refused (Bad roles.Start name 0 kinds.Twice)) ⊎ (ending ≡ Refused Memory)
 
--- the words give this command
-pub record Says (words : List (List ℕ)) (command : Command) : Type 0 where
-  pub spelled : words ≡ words_of command
-  pub names : AreNames command
+-- the limit of instructions is in its range
+pub record IsWithin (w : RunWords) : Type 0 where
+  pub some_limit : 1 ≤ w.limit
+  pub limit : w.limit ≤ 20000000
+
+abbrev pub HasLimit : Command → Type 0
+HasLimit (Solo w) = IsWithin w
+HasLimit (Replay w journal) = IsWithin w
+HasLimit other = Unit {0}
+
+abbrev pub IsAgain : Word → Option Word → Type 0
+IsAgain file None = ⊥
+IsAgain file (Some journal) = file ≡ journal
 
 -- the command names one file twice
 abbrev pub IsTwice : Command → Type 0
-IsTwice (Solo file None) = ⊥
-IsTwice (Solo file (Some journal)) = file ≡ journal
-IsTwice (Replay file journal) = file ≡ journal
+IsTwice (Solo w) = IsAgain w.file w.journal
+IsTwice (Replay w journal) = w.file ≡ journal
+IsTwice other = ⊥

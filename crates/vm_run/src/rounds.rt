@@ -14,12 +14,12 @@ ghost use Rattle.vm_run.specs.Cut.{IsCut, IsCutOff};
 ghost use Rattle.vm_run.specs.Single.{IsSingle};
 
 use crate::actors::Playing;
-use crate::console::write_all;
 use std::alloc::Global;
 use thiserror::Error;
 use vm_host::{Sink, SinkFault};
 use vm_law::{Journal, OutOfMemory, Seq};
 use vm_machine::{Run, Start};
+use vm_status::write_all;
 
 /// So many entries are added at most in a round and, where the console fails in it, up to Close.
 const MOST_ENTRIES: usize = 9;

@@ -1,69 +1,68 @@
 //! Runs the guest of an image file.
-ghost use Rattle.std.specs.Prelude.{◌≡◌, ◌≢◌, ◌∷◌, [], ◌↔◌, IsTrue, OnOk, IfSome, IfNone, IsErrOf, IsNone};
+ghost use Rattle.std.specs.Prelude.{◌≡◌, ◌≢◌, ◌≤◌, ◌∷◌, [], ◌↔◌, IsTrue, OnOk, IfSome, IfNone, IfErr, IsErrOf, IsNone};
 ghost use Rattle.std.specs.Option.{option_copied};
 ghost use Rattle.vm_law.specs.declared.script.Order.TheVariants.{WaitQuiet};
-ghost use Rattle.vm_host.specs.declared.host.HostFault.TheVariants.{Missing, Failed};
 ghost use Rattle.vm_host.specs.Leaves.{ReadsHost, TakesSome};
 ghost use Rattle.vm_machine.specs.Starting.{IsSound};
 ghost use Rattle.vm_machine.specs.Turns.{IsOrderly};
-ghost use Rattle.vm_run.specs.declared.command.Command.TheVariants.{Solo};
 ghost use Rattle.vm_run.specs.Answer.{outside, sent_in, IsRunOf, IsRunFrom, SoloAnswers, RunAnswers, IsSaved, ChangesOnly};
-ghost use Rattle.vm_run.specs.Closing.{SaysWhy, Closes};
-ghost use Rattle.vm_run.specs.Ends.{HasCauses, HasJournalCauses, HasCounts, IsNamedSome};
-ghost use Rattle.vm_run.specs.Words.{IsTwice};
+ghost use Rattle.vm_run.specs.Closing.{SaysWhy, Closes, IsUnsaved};
+ghost use Rattle.vm_run.specs.Ends.{ending_status, result_status, HasCauses, HasJournalCauses, HasSaveCauses};
+ghost use Rattle.vm_run.specs.Words.{IsAgain};
 
-use crate::ending::Fault;
 use crate::journaling::save_journal;
-use crate::outcome::{Kept, Outcome};
+use crate::outcome::{Ending, Finish, Kept};
+use crate::refusing::after_host;
 use crate::rounds::{PlayFault, Played, play};
 use crate::starting::start_from;
+use crate::unbuilt::second;
 use std::alloc::Global;
-use vm_host::{Host, HostFault, Sink};
+use vm_cmd::RunWords;
+use vm_host::{Host, Sink};
 use vm_law::{Journal, Text};
 use vm_machine::{Start, Why};
+use vm_status::Refusal;
 
 /// Runs the guest of an image file to its end, and writes the run's journal to a file if one is named.
 pub(crate) fn solo<H: Host, S: Sink>(
     alloc: Global,
-    file: &str,
-    journal: Option<&Text>,
+    words: &RunWords,
     host: &mut H,
     console: &mut S,
-) -> Outcome
+) -> Finish
+    requires some_limit { 1 ≤ words.now.limit }
+    requires limit { words.now.limit ≤ 20000000 }
     ensures answers { SoloAnswers (outside (H.seen host.old) (H.seen host.new) (S.seen console.old) (S.seen console.new))
-        file.now (option_copied journal.entry) result.status result.kept }
-    ensures run { IfSome result.kept (λ k. IsRunOf (H.seen host.old) file.now k) }
+        words.now result.ending result.kept }
+    ensures run { IfSome result.kept (λ k. IsRunOf (H.seen host.old) words.now k) }
     ensures orderly { IfSome result.kept (λ k. IsOrderly k.start k.journal) }
-    ensures twice { IsTwice (Solo file.now (option_copied journal.entry)) → IsNone result.kept }
-    ensures causes { HasCauses result.status (H.seen host.old) (H.seen host.new) (S.seen console.old) (S.seen console.new) }
-    ensures host { ChangesOnly (option_copied journal.entry) (H.seen host.old) (H.seen host.new) }
+    ensures twice { IsAgain words.now.file words.now.journal → IsNone result.kept }
+    ensures causes { HasCauses (ending_status result.ending) (H.seen host.old) (H.seen host.new) (S.seen console.old) (S.seen console.new) }
+    ensures host { ChangesOnly words.now.journal (H.seen host.old) (H.seen host.new) }
     ensures console { IfSome result.kept (λ k. TakesSome (sent_in k) (S.seen console.old) (S.seen console.new)) }
     ensures still { IfNone result.kept (ReadsHost (H.seen host.old) (H.seen host.new)) }
     ensures silent { IfNone result.kept (console.new ≡ console.old) }
 {
-    match start_from(alloc, host, file) {
+    match start_from(alloc, host, words.file.as_str(), words.limit) {
         Ok(start) => {
-            if is_named_twice(file, journal) {
-                return Outcome {
-                    status: Fault::Refused.status(),
-                    kept: None,
-                };
+            if is_named_twice(words) {
+                return second(alloc, words.file.as_str());
             }
-            run_start(alloc, start, journal, host, console)
+            run_start(alloc, start, words.journal.as_ref(), host, console)
         }
-        Err(fault) => Outcome {
-            status: fault.status(),
+        Err(refusal) => Finish {
+            ending: Ending::Refused(refusal),
             kept: None,
         },
     }
 }
 
 /// Whether the journal is to be written to the file itself.
-fn is_named_twice(file: &str, journal: Option<&Text>) -> bool
-    ensures { IsTrue result ↔ IsTwice (Solo file.now (option_copied journal.entry)) }
+fn is_named_twice(words: &RunWords) -> bool
+    ensures { IsTrue result ↔ IsAgain words.now.file words.now.journal }
 {
-    match journal {
-        Some(journal) => file == journal.as_str(),
+    match &words.journal {
+        Some(journal) => words.file.as_str() == journal.as_str(),
         None => false,
     }
 }
@@ -75,15 +74,15 @@ fn run_start<H: Host, S: Sink>(
     journal: Option<&Text>,
     host: &mut H,
     console: &mut S,
-) -> Outcome
+) -> Finish
     requires sound { IsSound start }
     requires one { start.plan.cpus ≡ 1 }
     requires script { start.script ≡ WaitQuiet ∷ [] }
     ensures answers { RunAnswers (outside (H.seen host.old) (H.seen host.new) (S.seen console.old) (S.seen console.new))
-        (option_copied journal.entry) result.status result.kept }
+        (option_copied journal.entry) result.ending result.kept }
     ensures run { IfSome result.kept (λ k. IsRunFrom start k) }
     ensures orderly { IfSome result.kept (λ k. IsOrderly k.start k.journal) }
-    ensures causes { HasCauses result.status (H.seen host.old) (H.seen host.new) (S.seen console.old) (S.seen console.new) }
+    ensures causes { HasCauses (ending_status result.ending) (H.seen host.old) (H.seen host.new) (S.seen console.old) (S.seen console.new) }
     ensures host { ChangesOnly (option_copied journal.entry) (H.seen host.old) (H.seen host.new) }
     ensures console { IfSome result.kept (λ k. TakesSome (sent_in k) (S.seen console.old) (S.seen console.new)) }
     ensures still { IfNone result.kept (host.new ≡ host.old) }
@@ -96,9 +95,9 @@ fn run_start<H: Host, S: Sink>(
                 run,
                 end,
             } = played;
-            let status = close(alloc, host, journal, &history, end, run.ended());
-            Outcome {
-                status,
+            let ending = close(alloc, host, journal, &history, end, run.ended());
+            Finish {
+                ending,
                 kept: Some(Kept {
                     start,
                     journal: history,
@@ -106,14 +105,14 @@ fn run_start<H: Host, S: Sink>(
                 }),
             }
         }
-        Err(_) => Outcome {
-            status: Fault::Memory.status(),
+        Err(_) => Finish {
+            ending: Ending::Refused(Refusal::Memory),
             kept: None,
         },
     }
 }
 
-/// Writes the journal of a run that is closed to its file if one is named, and answers the run's status. The first
+/// Writes the journal of a run that is closed to its file if one is named, and answers how the run ended. The first
 /// failure decides it.
 fn close<H: Host>(
     alloc: Global,
@@ -122,21 +121,21 @@ fn close<H: Host>(
     history: &Journal,
     end: Result<(), PlayFault>,
     why: Option<Why>,
-) -> u8
+) -> Ending
     ensures closes { Closes (H.seen host.old) (H.seen host.new) (option_copied name.entry) history.now why end result }
-    ensures causes { HasJournalCauses result (H.seen host.old) (H.seen host.new) }
+    ensures causes { HasJournalCauses (ending_status result) (H.seen host.old) (H.seen host.new) }
     ensures host { ChangesOnly (option_copied name.entry) (H.seen host.old) (H.seen host.new) }
 {
     match end {
         Ok(()) => match keep_journal(alloc, host, name, history) {
-            Ok(()) => status_of(why),
-            Err(fault) => Fault::from(fault).status(),
+            Ok(()) => ran(why),
+            Err(refusal) => Ending::Refused(refusal),
         },
         Err(PlayFault::Console) => {
             let _kept = keep_journal(alloc, host, name, history);
-            Fault::Console.status()
+            Ending::Refused(Refusal::Console)
         }
-        Err(PlayFault::Memory) => Fault::Memory.status(),
+        Err(PlayFault::Memory) => Ending::Refused(Refusal::Memory),
     }
 }
 
@@ -146,28 +145,44 @@ fn keep_journal<H: Host>(
     host: &mut H,
     name: Option<&Text>,
     history: &Journal,
-) -> Result<(), HostFault>
+) -> Result<(), Refusal>
     ensures saved { OnOk result (IsSaved (H.seen host.old) (H.seen host.new) (option_copied name.entry) history.now) }
-    ensures failed { IsErrOf result Failed → IsNamedSome (option_copied name.entry) (H.seen host.new) }
-    ensures counts { HasCounts (H.seen host.old) (H.seen host.new) result }
-    ensures not_missing { IsErrOf result Missing → ⊥ }
+    ensures unsaved { IfErr result (λ r. IsUnsaved (option_copied name.entry) (H.seen host.new) r) }
+    ensures causes { HasSaveCauses (result_status result) (H.seen host.old) (H.seen host.new) }
     ensures host { ChangesOnly (option_copied name.entry) (H.seen host.old) (H.seen host.new) }
 {
     match name {
-        Some(name) => save_journal(alloc, host, name.as_str(), history),
+        Some(name) => write_journal(alloc, host, name, history),
         None => Ok(()),
     }
 }
 
-/// The status of a run that ended so, where nothing outside failed.
-fn status_of(why: Option<Why>) -> u8
+/// Writes a journal to the file of this name.
+fn write_journal<H: Host>(
+    alloc: Global,
+    host: &mut H,
+    name: &Text,
+    history: &Journal,
+) -> Result<(), Refusal>
+    ensures saved { OnOk result (IsSaved (H.seen host.old) (H.seen host.new) (Some name.now) history.now) }
+    ensures unsaved { IfErr result (λ r. IsUnsaved (Some name.now) (H.seen host.new) r) }
+    ensures causes { HasSaveCauses (result_status result) (H.seen host.old) (H.seen host.new) }
+    ensures host { ChangesOnly (Some name.now) (H.seen host.old) (H.seen host.new) }
+{
+    let copy = name.copy(alloc)?;
+    match save_journal(alloc, host, name.as_str(), history) {
+        Ok(()) => Ok(()),
+        Err(fault) => Err(after_host(copy, fault)),
+    }
+}
+
+/// How a run ended, where nothing outside failed.
+fn ran(why: Option<Why>) -> Ending
     ensures why { SaysWhy why result }
-    ensures no_host_fault { (result ≢ 6) × (result ≢ 7) }
+    ensures no_host_fault { (ending_status result ≢ 6) × (ending_status result ≢ 7) }
 {
     match why {
-        Some(Why::Finished) => 0,
-        Some(Why::Stopped { .. }) => 4,
-        Some(Why::Budget) => 5,
-        Some(Why::Outside) | None => Fault::Console.status(),
+        Some(Why::Outside) | None => Ending::Refused(Refusal::Console),
+        Some(why) => Ending::Ran(why),
     }
 }

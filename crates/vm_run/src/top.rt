@@ -1,27 +1,84 @@
 //! The top calls.
-ghost use Rattle.std.specs.Prelude.{◌≡◌, ◌↔◌, ℕ, List, [], ◌∷◌, map, Contains, IfSome, IfNone, IsNone};
-ghost use Rattle.vm_host.specs.Told.{WhereTold};
-ghost use Rattle.vm_host.specs.Leaves.{ReadsHost, TakesSome};
-ghost use Rattle.vm_run.specs.declared.command.Command.{Command as CommandValue};
-ghost use Rattle.vm_run.specs.Answer.{outside, sent_in, Answers, IsRunOf, IsOrderlyOf, Changes, CanDo, MustRefuse, statuses, done_statuses, refused_statuses};
-ghost use Rattle.vm_run.specs.Ends.{HasCauses, NoneRose};
-ghost use Rattle.vm_run.specs.Words.{Says, IsTwice, image_name};
+ghost use Rattle.std.specs.Prelude.{◌≡◌, List, [], ◌∷◌, Some, None, Contains, IsNone};
+ghost use Rattle.vm_cmd.specs.Table.{command_of};
+ghost use Rattle.vm_cmd.specs.Word.{Word, texts};
+ghost use Rattle.vm_cmd.specs.declared.command.Command.{Command as CommandValue};
+ghost use Rattle.vm_host.specs.Leaves.{LeavesSink};
+ghost use Rattle.vm_run.specs.Answer.{Does, Logs};
+ghost use Rattle.vm_run.specs.Ends.{ending_status};
+ghost use Rattle.vm_run.specs.Words.{HasLimit};
 
-use crate::command::{Command, WordsFault, command_of};
-use crate::outcome::Outcome;
+use crate::outcome::{Ending, Finish, Outcome};
 use crate::replaying::replay_file;
 use crate::solo::solo;
+use crate::unbuilt::{later, unbuilt_option};
 use std::alloc::Global;
 use std::sync::Wait;
 use std::thread::Threads;
+use vm_cmd::{CmdError, Command, read};
 use vm_host::{Gate, Host, Sink};
+use vm_status::{Refusal, write_line};
+
+/// Does what a command says. What isn't built yet is refused before anything is read.
+fn carry_out<H: Host, S: Sink>(
+    alloc: Global,
+    command: &Command,
+    host: &mut H,
+    console: &mut S,
+) -> Finish
+    requires { HasLimit command.now }
+    ensures { Does H.seen S.seen command.now host.old host.new console.old console.new result.ending result.kept }
+{
+    match command {
+        Command::Solo(words) => match unbuilt_option(words) {
+            Some(word) => later(alloc, word),
+            None => solo(alloc, words, host, console),
+        },
+        Command::Replay(words, journal) => match unbuilt_option(words) {
+            Some(word) => later(alloc, word),
+            None => replay_file(alloc, words, journal.as_str(), host, console),
+        },
+        Command::Run(_) => later(alloc, "run"),
+        Command::Show(_) => later(alloc, "show"),
+        Command::Asm(_, _) => later(alloc, "asm"),
+        Command::Make { .. } => later(alloc, "make"),
+        Command::Convert(_, _) => later(alloc, "convert"),
+        Command::Arrive(_, _) => later(alloc, "arrive"),
+        Command::Inspect(_, _) => later(alloc, "inspect"),
+    }
+}
+
+/// Writes the line of a refusal to the log. A fault of the log changes nothing.
+fn tell<L: Sink>(ending: &Ending, log: &mut L)
+    ensures { Logs ending.now (L.seen log.old) (L.seen log.new) }
+{
+    if let Ending::Refused(refusal) = ending {
+        let _told = write_line(refusal, log);
+    }
+}
+
+/// What a command answers that ended so.
+fn outcome_of(finish: Finish) -> Outcome
+    ensures status { result.status ≡ ending_status finish.ending }
+    ensures ending { result.ending ≡ finish.ending }
+    ensures kept { result.kept ≡ finish.kept }
+{
+    let Finish { ending, kept } = finish;
+    let status = ending.status();
+    Outcome {
+        status,
+        ending,
+        kept,
+    }
+}
 
 /// Does what a command says, on the calling thread, and always returns.
 ///
-/// `solo FILE` reads the image file whole, runs its guest by the rounds of one thread, and writes what the guest sends to
-/// the console; the run's journal is then written to its file if one is named. `replay FILE JOURNAL` reads both files, makes
-/// the journal's steps again from the image's start, and writes what its guest sent. The first refusal of host or console
-/// decides the status. The log takes nothing.
+/// `solo FILE` reads the image file whole, runs its guest by the rounds of one thread for at most so many instructions as
+/// the words allow, and writes what the guest sends to the console; the run's journal is then written to its file if one is
+/// named. `replay FILE JOURNAL` reads both files, makes the journal's steps again from the image's start, and writes what its
+/// guest sent. Every other command, and the options `--restore` and `--state`, are refused as not built yet. The first
+/// refusal of host or console decides the ending, and the log takes the line of a refusal.
 pub fn still_cmd<H: Host, S: Sink, L: Sink>(
     alloc: Global,
     command: &Command,
@@ -29,48 +86,19 @@ pub fn still_cmd<H: Host, S: Sink, L: Sink>(
     console: &mut S,
     log: &mut L,
 ) -> Outcome
-    ensures statuses { Contains statuses result.status }
-
-    // What the status says of the files, of the console and of the run that is kept.
-    ensures answers { Answers command.now (outside (H.seen host.old) (H.seen host.new) (S.seen console.old) (S.seen console.new))
-        result.status result.kept }
-
-    // A run that is kept began at the start of the image's file, its journal is a history, and it is what follows it.
-    ensures run { IfSome result.kept (λ k. IsRunOf (H.seen host.old) (image_name command.now) k) }
-    ensures orderly { IfSome result.kept (λ k. IsOrderlyOf command.now k) }
-    ensures twice { IsTwice command.now → IsNone result.kept }
-
-    // A refusal of host or console has its status, and the status of a refusal has its cause.
-    ensures causes { HasCauses result.status (H.seen host.old) (H.seen host.new) (S.seen console.old) (S.seen console.new) }
-
-    // What the files allow is done where nobody refuses, and what they don't allow is refused.
-    ensures complete { WhereTold (H.seen host.old).tells (CanDo (H.seen host.old).file command.now
-        → NoneRose (H.seen host.old) (H.seen host.new) (S.seen console.old) (S.seen console.new)
-        → Contains (done_statuses command.now) result.status) }
-    ensures refuses { WhereTold (H.seen host.old).tells (MustRefuse (H.seen host.old).file command.now
-        → Contains refused_statuses result.status) }
-
-    // What a command leaves alone: of the host, of the console, and of both where nothing is kept.
-    ensures host { Changes command.now (H.seen host.old) (H.seen host.new) }
-    ensures console { IfSome result.kept (λ k. TakesSome (sent_in k) (S.seen console.old) (S.seen console.new)) }
-    ensures still { IfNone result.kept (ReadsHost (H.seen host.old) (H.seen host.new)) }
-    ensures silent { IfNone result.kept (console.new ≡ console.old) }
-    ensures log { log.new ≡ log.old }
+    requires { HasLimit command.now }
+    ensures does { Does H.seen S.seen command.now host.old host.new console.old console.new result.ending result.kept }
+    ensures status { result.status ≡ ending_status result.ending }
+    ensures log { Logs result.ending (L.seen log.old) (L.seen log.new) }
 {
-    match command {
-        Command::Solo { file, journal } => {
-            solo(alloc, file.as_str(), journal.as_ref(), host, console)
-        }
-        Command::Replay { file, journal } => {
-            replay_file(alloc, file.as_str(), journal.as_str(), host, console)
-        }
-    }
+    let finish = carry_out(alloc, command, host, console);
+    tell(&finish.ending, log);
+    outcome_of(finish)
 }
 
-/// Does what words say: `solo FILE`, `solo FILE --journal JOURNAL` or `replay FILE JOURNAL`, without the program's name
-/// before them.
+/// Does what words say, without the program's name before them: the command that they give by the table of commands.
 ///
-/// Status 2 says that the words are none of these. Everything else is as with [`still_cmd`].
+/// Words outside the table give status 2. Everything else is as with [`still_cmd`].
 pub fn vmrun<R: Threads + Wait + Sync, H: Host, S: Sink, L: Sink, G: Gate + Sync>(
     _rt: &R,
     alloc: Global,
@@ -80,49 +108,38 @@ pub fn vmrun<R: Threads + Wait + Sync, H: Host, S: Sink, L: Sink, G: Gate + Sync
     log: &mut L,
     _gate: &G,
 ) -> Outcome
-    ensures usage { (result.status ≡ 2) ↔ ((command : CommandValue) → Says (map (λ w. w.now) words.entry.now) command → ⊥) }
-    ensures unused { result.status ≡ 2 → (host.new ≡ host.old) × IsNone result.kept }
-    ensures statuses { Contains (2 ∷ statuses) result.status }
+    // What the words say is done, as one command does it.
+    ensures does { (command : CommandValue) → command_of (texts words.entry.now) ≡ Some command
+        → Does H.seen S.seen command host.old host.new console.old console.new result.ending result.kept }
+    // Words outside the table are refused, and nothing is done.
+    ensures usage { command_of (texts words.entry.now) ≡ None → Contains (2 ∷ 71 ∷ []) result.status }
+    ensures only_usage { result.status ≡ 2 → command_of (texts words.entry.now) ≡ None }
+    ensures unused { command_of (texts words.entry.now) ≡ None → (host.new ≡ host.old) × (console.new ≡ console.old) × IsNone result.kept }
 
-    // What the status says of the files, of the console and of the run that is kept.
-    ensures answers { (command : CommandValue) → Says (map (λ w. w.now) words.entry.now) command
-        → Answers command (outside (H.seen host.old) (H.seen host.new) (S.seen console.old) (S.seen console.new)) result.status result.kept }
-
-    // A run that is kept began at the start of the image's file, its journal is a history, and it is what follows it.
-    ensures run { (command : CommandValue) → Says (map (λ w. w.now) words.entry.now) command
-        → IfSome result.kept (λ k. IsRunOf (H.seen host.old) (image_name command) k) }
-    ensures orderly { (command : CommandValue) → Says (map (λ w. w.now) words.entry.now) command
-        → IfSome result.kept (λ k. IsOrderlyOf command k) }
-    ensures twice { (command : CommandValue) → Says (map (λ w. w.now) words.entry.now) command → IsTwice command → IsNone result.kept }
-
-    // A refusal of host or console has its status, and the status of a refusal has its cause.
-    ensures causes { HasCauses result.status (H.seen host.old) (H.seen host.new) (S.seen console.old) (S.seen console.new) }
-
-    // What the files allow is done where nobody refuses, and what they don't allow is refused.
-    ensures complete { (command : CommandValue) → Says (map (λ w. w.now) words.entry.now) command
-        → WhereTold (H.seen host.old).tells (CanDo (H.seen host.old).file command
-        → NoneRose (H.seen host.old) (H.seen host.new) (S.seen console.old) (S.seen console.new)
-        → Contains (done_statuses command) result.status) }
-    ensures refuses { (command : CommandValue) → Says (map (λ w. w.now) words.entry.now) command
-        → WhereTold (H.seen host.old).tells (MustRefuse (H.seen host.old).file command
-        → Contains refused_statuses result.status) }
-
-    // What a command leaves alone: of the host, of the console, and of both where nothing is kept.
-    ensures host { (command : CommandValue) → Says (map (λ w. w.now) words.entry.now) command
-        → Changes command (H.seen host.old) (H.seen host.new) }
-    ensures console { IfSome result.kept (λ k. TakesSome (sent_in k) (S.seen console.old) (S.seen console.new)) }
-    ensures still { IfNone result.kept (ReadsHost (H.seen host.old) (H.seen host.new)) }
-    ensures silent { IfNone result.kept (console.new ≡ console.old) }
-    ensures log { log.new ≡ log.old }
+    ensures status { result.status ≡ ending_status result.ending }
+    ensures log { Logs result.ending (L.seen log.old) (L.seen log.new) }
 {
-    match command_of(alloc, words) {
-        Ok(command) => still_cmd(alloc, &command, host, console, log),
-        Err(WordsFault::Usage) => Outcome {
-            status: 2,
+    let finish = obey(alloc, words, host, console);
+    tell(&finish.ending, log);
+    outcome_of(finish)
+}
+
+/// Does what words say.
+fn obey<H: Host, S: Sink>(alloc: Global, words: &[&str], host: &mut H, console: &mut S) -> Finish
+    ensures does { (command : CommandValue) → command_of (texts words.entry.now) ≡ Some command
+        → Does H.seen S.seen command host.old host.new console.old console.new result.ending result.kept }
+    ensures usage { command_of (texts words.entry.now) ≡ None → Contains (2 ∷ 71 ∷ []) (ending_status result.ending) }
+    ensures only_usage { ending_status result.ending ≡ 2 → command_of (texts words.entry.now) ≡ None }
+    ensures unused { command_of (texts words.entry.now) ≡ None → (host.new ≡ host.old) × (console.new ≡ console.old) × IsNone result.kept }
+{
+    match read(alloc, words) {
+        Ok(command) => carry_out(alloc, &command, host, console),
+        Err(CmdError::Usage) => Finish {
+            ending: Ending::Refused(Refusal::Usage),
             kept: None,
         },
-        Err(WordsFault::Memory) => Outcome {
-            status: 71,
+        Err(CmdError::Memory) => Finish {
+            ending: Ending::Refused(Refusal::Memory),
             kept: None,
         },
     }

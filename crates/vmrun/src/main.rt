@@ -1,8 +1,8 @@
 //! vmrun, a virtual machine for an integer subset of 64-bit x86.
 //!
-//! This program hands the command line, the files of the system and standard output to `vm_run::vmrun` and ends with the status
-//! that it answers. Files and output are those of `vm_hostreal`, which tell nothing of content: what a real file or terminal holds
-//! isn't claimed.
+//! This program hands the command line, the files of the system, standard output for the console and standard error for the
+//! log to `vm_run::vmrun`, and ends with the status that it answers. Files and output are those of `vm_hostreal`, which tell
+//! nothing of content: what a real file or terminal holds isn't claimed.
 #![tactic(auto)]
 
 use std::process::ExitCode;
@@ -10,7 +10,7 @@ use std::sync::Wait;
 use std::thread::Threads;
 use std::{env, io};
 use vm_host::NoGate;
-use vm_hostreal::{FileHost, OutSink};
+use vm_hostreal::{ErrSink, FileHost, OutSink};
 use vm_run::vmrun;
 
 /// The words after the program's name.
@@ -31,7 +31,7 @@ fn run<R: Threads + Wait + Sync>(threads: &R, rt: &HostRuntime) -> io::Result<u8
     }
     let mut host = FileHost::new(rt.clone()?);
     let mut console = OutSink::new(rt.clone()?);
-    let mut log = OutSink::new(rt.clone()?);
+    let mut log = ErrSink::new(rt.clone()?);
     let outcome = vmrun(
         threads,
         rt.alloc(),

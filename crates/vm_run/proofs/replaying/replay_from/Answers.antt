@@ -9,5 +9,5 @@ returns-in-Ok-journal_from-clause-answers g c = answer.read c.in-Ok-journal_from
 pub returns-in-Err-journal_from-clause-answers : goal.returns-in-Err-journal_from-clause-answers
 returns-in-Err-journal_from-clause-answers g c =
     let k : Kept = record { start = c.args.start; journal = c.new.result; run = c.in-Ok.run' } in
-    no_journal (g.H.Host.seen c.args.host.now) (g.H.Host.seen c.journal_from.new.host) (g.S.Sink.seen c.args.console.now) c.args.journal.now k c.in-Err-journal_from.fault c.status-in-Err-journal_from.result
-    c.status-in-Err-journal_from.ensures c.new.ensures c.in-Err-journal_from.ensures.reads c.in-Err-journal_from.ensures.causes
+    no_journal (g.H.Host.seen c.args.host.now) (g.H.Host.seen c.journal_from.new.host) (g.S.Sink.seen c.args.console.now) c.args.journal.now k c.in-Err-journal_from.refusal
+    c.new.ensures c.in-Err-journal_from.ensures.reads c.in-Err-journal_from.ensures.causes

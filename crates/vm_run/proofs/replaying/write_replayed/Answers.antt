@@ -9,7 +9,7 @@ use Rattle.vm_run.proofs.replaying.write_replayed.Goals as goal
 pub returns-in-Ok-clause-answers : goal.returns-in-Ok-clause-answers
 returns-in-Ok-clause-answers g c =
     let same : c.console.result.now ≡ console_of c.args.start c.args.history = c.console.ensures ∙ ap (λ (s : State). s.console) c.requires.last in
-    answer.replayed _ refl refl (subst (λ (l : List ℕ). Takes l (g.S.Sink.seen c.args.console.now) (g.S.Sink.seen c.write_all-written.new.sink)) same c.in-Ok.ensures.whole) refl
+    λ name. answer.replayed _ refl refl (subst (λ (l : List ℕ). Takes l (g.S.Sink.seen c.args.console.now) (g.S.Sink.seen c.write_all-written.new.sink)) same c.in-Ok.ensures.whole) refl
 
 pub returns-in-Ok-clause-console : goal.returns-in-Ok-clause-console
 returns-in-Ok-clause-console g c =
@@ -20,4 +20,4 @@ returns-in-Ok-clause-console g c =
 pub returns-in-Err-clause-answers : goal.returns-in-Err-clause-answers
 returns-in-Err-clause-answers g c =
     let same : c.console.result.now ≡ console_of c.args.start c.args.history = c.console.ensures ∙ ap (λ (s : State). s.console) c.requires.last in
-    answer.unwritten _ refl refl (subst (λ (l : List ℕ). TakesSome l (g.S.Sink.seen c.args.console.now) (g.S.Sink.seen c.write_all-written.new.sink)) same c.in-Err.ensures.part) c.status.ensures
+    λ name. answer.unwritten _ refl refl (subst (λ (l : List ℕ). TakesSome l (g.S.Sink.seen c.args.console.now) (g.S.Sink.seen c.write_all-written.new.sink)) same c.in-Err.ensures.part) refl

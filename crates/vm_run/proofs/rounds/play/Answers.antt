@@ -2,7 +2,7 @@ use Rattle.std.proofs.Common.{[], refl, sym, subst, ap, ◌∙◌}
 use Rattle.vm_machine.specs.State.{State}
 use Rattle.vm_host.specs.Leaves.{Takes, TakesSome}
 use Rattle.vm_run.specs.Single.{IsSingle}
-use Rattle.vm_run.proofs.Pieces.{on_any}
+use Rattle.vm_status.proofs.Pieces.{on_any}
 use Rattle.vm_run.proofs.Continued.{came_to, by_rounds_from, boot_single, boot_rests, boot_going, boot_inside, solo_by_rounds, cut_from}
 use Rattle.vm_machine.specs.Starting.{boot}
 use Rattle.vm_machine.specs.Rounds.{run_outside}
