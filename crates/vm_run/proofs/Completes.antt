@@ -28,14 +28,14 @@ use Rattle.vm_run.proofs.Images.{one_image}
 same_bytes : (file : Option (List ℕ)) (a b : List ℕ) → file ≡ Some a → file ≡ Some b → a ≡ b
 same_bytes file a b p q = let e : ◌≡◌ {A = Option (List ℕ)} (Some a) (Some b) = sym p ∙ q in cc e
 
-not_gone : (file : Option (List ℕ)) (a : List ℕ) → file ≡ Some a → file ≡ None → ⊥
+pub not_gone : (file : Option (List ℕ)) (a : List ℕ) → file ≡ Some a → file ≡ None → ⊥
 not_gone file a p q = let e : ◌≡◌ {A = Option (List ℕ)} (Some a) None = sym p ∙ q in cc e
 
 module _ {X : Type 0} (told : Bool) (is_told : told ≡ true) (file : Option (List ℕ)) (Means : List ℕ → X → Type 0) where
-  refused_not_file : (x : X) → IsRefused told file Means → IsFileOf true file Means x → ⊥
+  pub refused_not_file : (x : X) → IsRefused told file Means → IsFileOf true file Means x → ⊥
   refused_not_file x r f = r.none x (subst (λ (b : List ℕ). Means b x) (same_bytes file f.bytes r.bytes (f.is_file refl) (r.is_file is_told)) f.means)
 
-  file_not_refused : (x : X) → IsFileOf told file Means x → IsRefused true file Means → ⊥
+  pub file_not_refused : (x : X) → IsFileOf told file Means x → IsRefused true file Means → ⊥
   file_not_refused x f r = r.none x (subst (λ (b : List ℕ). Means b x) (same_bytes file f.bytes r.bytes (f.is_file is_told) (r.is_file refl)) f.means)
 
   one_meaning : ((bytes : List ℕ) (x y : X) → Means bytes x → Means bytes y → x ≡ y) → (x y : X) → IsFileOf told file Means x → IsFileOf true file Means y → x ≡ y
@@ -47,7 +47,7 @@ one_start limit bytes a b p q =
     p.is_start ∙ ap (λ (f : FlatImage). start_of limit f) (one_image memory_size bytes p.image q.image p.is_image q.is_image) ∙ sym q.is_start
 
 -- a first fault left aside
-aside : {X : Type 0} (told : Bool) (file : Option (List ℕ)) (Means : List ℕ → X → Type 0) (IsFirst : List ℕ → ℕ → Kind → Type 0) (at : ℕ) (kind : Kind) → IsRefusedAt told file Means IsFirst at kind → IsRefused told file Means
+pub aside : {X : Type 0} (told : Bool) (file : Option (List ℕ)) (Means : List ℕ → X → Type 0) (IsFirst : List ℕ → ℕ → Kind → Type 0) (at : ℕ) (kind : Kind) → IsRefusedAt told file Means IsFirst at kind → IsRefused told file Means
 aside told file Means IsFirst at kind r = record { bytes = r.bytes; is_file = r.is_file; none = r.none }
 
 one_journal : (bytes : List ℕ) (a b : List Signed) → IsJournal bytes a → IsJournal bytes b → a ≡ b

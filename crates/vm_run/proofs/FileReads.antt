@@ -6,6 +6,14 @@ use Rattle.std.proofs.lemmas.Bool.Decides.{nat_tests}
 use Rattle.std.proofs.lemmas.List.{length-replicate}
 use Rattle.byte_reader.specs.declared.reading.Refusal.{Refusal as Fault}
 use Rattle.byte_reader.specs.Fixed.{IsFault, text_at, same}
+use Rattle.asm_insn.specs.Law.{SpellerLaw}
+use Rattle.asm_insn.specs.Spelling.{Speller, IsSpeller}
+use Rattle.text_reader.specs.Line.{Fault as LineFault}
+use Rattle.vm_asm.specs.declared.fault.AsmError.{AsmError}
+use Rattle.vm_asm.specs.declared.fault.AsmError.TheVariants as asm_error
+use Rattle.vm_asm.specs.declared.fault.AsmKind.{AsmKind}
+use Rattle.vm_asm.specs.Assembly.{assembled}
+use Rattle.vm_asm.specs.Layout.{Stops}
 use Rattle.vm_law.specs.declared.image.FlatImage.{FlatImage}
 use Rattle.vm_law.specs.declared.journal.Signed.{Signed}
 use Rattle.vm_law.specs.Image.{IsImage}
@@ -25,7 +33,8 @@ use Rattle.vm_journal.specs.declared.fault.JournalError.{JournalError}
 use Rattle.vm_journal.specs.declared.fault.JournalError.TheVariants as decoding
 use Rattle.vm_journal.specs.Reading.{Answers, whole, journal_at}
 use Rattle.vm_journal.specs.Spelling.{spelling, AreEntries}
-use Rattle.vm_run.specs.Refusing.{after_load, after_image, after_decode, image_kind, journal_kind}
+use Rattle.vm_run.specs.Assembling.{IsAssembly, IsAssemblyFault}
+use Rattle.vm_run.specs.Refusing.{after_load, after_image, after_decode, after_asm, image_kind, journal_kind, asm_kind}
 use Rattle.vm_run.specs.Files as files
 use Rattle.vm_run.specs.Files.{Unread, IsFileOf, IsRefusedAt, IsJournal, IsJournalFault}
 use Rattle.vm_run.specs.Starting.{IsStart, IsImageFault, memory_size, image_limit}
@@ -191,3 +200,27 @@ module _ (told : Bool) (file : Option (List ℕ)) (bytes : List ℕ) (front : Wh
   no_journal_read name (decoding.Fault at k) only exact =
       files.bad at (journal_kind k) refl (gated_nothing at k (λ journal j. only journal j.fits j.spelled) exact)
   no_journal_read name decoding.Memory only exact = files.spent refl
+
+-- ---- assembler texts
+
+pub long_is_no_assembly : (bytes : List ℕ) (f : FlatImage) → 1048576 < length bytes → IsAssembly bytes f → ⊥
+long_is_no_assembly bytes f lt a = omega (arith, a.short)
+
+pub long_is_assembly_fault : (bytes : List ℕ) → 1048576 < length bytes → IsAssemblyFault bytes 1048576 Long
+long_is_assembly_fault bytes lt = inl (lt, refl, refl)
+
+both_read : (read : Result FlatImage (LineFault AsmKind)) (f : FlatImage) (fault : LineFault AsmKind) → read ≡ Ok f → read ≡ Err fault → ⊥
+both_read read f fault p q = let bad : ◌≡◌ {A = Result FlatImage (LineFault AsmKind)} (Ok f) (Err fault) = sym p ∙ q in cc
+
+module _ (told : Bool) (file : Option (List ℕ)) (name : List ℕ) (bytes : List ℕ) (is_file : WhereTold told (file ≡ Some bytes)) (within : length bytes ≤ 1048576)
+    (law : SpellerLaw) where
+  -- a text that isn't assembled
+  pub no_assembly_read : (e : AsmError) → ((spell : Speller) → IsSpeller spell → Stops e (assembled spell bytes))
+      → Unread told file roles.Assembly name IsAssembly IsAssemblyFault (after_asm name e)
+  no_assembly_read (asm_error.Fault line k) stops = files.bad line (asm_kind k) refl (record {
+    bytes = bytes;
+    is_file = is_file;
+    none = λ f a. both_read (assembled a.spell bytes) f (record { line = line; kind = k }) a.spelled (stops a.spell a.canonical);
+    first = inr (within, (k, record { spell = law.0; canonical = law.1; faulty = stops law.0 law.1 }, refl));
+  })
+  no_assembly_read asm_error.Memory stops = files.spent refl

@@ -5,21 +5,22 @@ use Rattle.vm_cmd.specs.declared.command.Command.{Command}
 use Rattle.vm_cmd.specs.declared.command.Command.TheVariants.{Run, Solo, Replay, Show, Asm, Make, Convert, Arrive, Inspect}
 use Rattle.vm_cmd.specs.declared.command.RunWords.{RunWords}
 use Rattle.vm_host.specs.Crash.{SinceEarlier}
-use Rattle.vm_host.specs.Leaves.{ReadsHost, TakesSome}
+use Rattle.vm_host.specs.Leaves.{ReadsHost, TakesSome, WritesFile}
 use Rattle.vm_host.specs.Views.{HostView, SinkView}
-use Rattle.vm_host.proofs.Frames.{reads_itself}
+use Rattle.vm_host.proofs.Frames.{reads_itself, reads_writes}
 use Rattle.vm_machine.specs.History.{IsLegal}
 use Rattle.vm_machine.specs.Turns.{IsOrderly}
 use Rattle.vm_run.specs.declared.outcome.Ending.{Ending}
 use Rattle.vm_run.specs.declared.outcome.Ending.TheVariants as how
 use Rattle.vm_run.specs.declared.outcome.Kept.{Kept}
 use Rattle.vm_run.specs.Answer as answer
-use Rattle.vm_run.specs.Answer.{Outside, outside, sent_in, IsRunOf, IsOrderlyOf, ChangesOnly, Changes, SoloAnswers, ReplayAnswers, Answers, CanDo, MustRefuse, Does, done_statuses, refused_statuses}
+use Rattle.vm_run.specs.Answer.{Outside, outside, sent_in, IsRunOf, IsOrderlyOf, ChangesOnly, Changes, Stands, SoloAnswers, ReplayAnswers, AsmAnswers, Answers, CanDo, MustRefuse, Does, done_statuses, refused_statuses}
 use Rattle.vm_run.specs.Ends.{ending_status, HasCauses}
 use Rattle.vm_run.specs.Files.{IsFileOf}
 use Rattle.vm_run.specs.Starting.{IsStart}
 use Rattle.vm_run.specs.Words.{unbuilt, unbuilt_option, IsLater, IsAgain}
 use Rattle.vm_run.proofs.Frames.{changes_itself, if_some, no_causes}
+use Rattle.vm_run.proofs.Assemblies.{asm_known, asm_completes, asm_refuses}
 use Rattle.vm_run.proofs.Completes.{solo_known, solo_completes, solo_refuses, replay_known, replay_completes, replay_refuses}
 use Rattle.vm_status.specs.declared.refusal.Refusal.TheVariants.{Memory}
 
@@ -80,6 +81,27 @@ module _ {A B : Type 0} (see : A → HostView) (watch : B → SinkView) (host ho
       refusal = λ told must. replay_refuses views ending kept told w (starts (see host) w kept run) (legals (see host) w kept run) journal must answers;
     }
 
+module _ {A B : Type 0} (see : A → HostView) (watch : B → SinkView) (host host_now : A) (console : B) where
+  pub asm_does : (file out : Word) (ending : Ending) (kept : Option Kept) → kept ≡ None → AsmAnswers (see host) (see host_now) file out ending
+      → HasCauses (ending_status ending) (see host) (see host_now) (watch console) (watch console) → WritesFile out (see host) (see host_now)
+      → Does see watch (Asm file out) host host_now console console ending kept
+  asm_does file out ending kept none answers causes files =
+      subst (λ (k : Option Kept). Does see watch (Asm file out) host host_now console console ending k) (sym none)
+      (record {
+        status = asm_known file out ending (see host) (see host_now) answers;
+        answers = answer.ran_asm file out refl refl answers;
+        kept_run = tt;
+        history = tt;
+        twice = λ t. refl;
+        console_part = tt;
+        silent = refl;
+        files = files;
+        still = files;
+        causes = causes;
+        completeness = λ told can calm. asm_completes file out ending (see host) (see host_now) told (watch console) (watch console) causes calm can.0 can.1 answers;
+        refusal = λ told must. asm_refuses file out ending (see host) (see host_now) told must answers;
+      })
+
 -- ---- what touches neither host nor console
 
 itself : (c : Command) (a : HostView) → (a.tells ≡ true → SinceEarlier a.left) → Changes c a a
@@ -87,11 +109,22 @@ itself (Solo w) a earlier = changes_itself w.journal a earlier
 itself (Replay w journal) a earlier = reads_itself a earlier
 itself (Run w) a earlier = reads_itself a earlier
 itself (Show config) a earlier = reads_itself a earlier
-itself (Asm file out) a earlier = reads_itself a earlier
+itself (Asm file out) a earlier = reads_writes a a (λ q. q ≡ out) (reads_itself a earlier)
 itself (Make cpus number) a earlier = reads_itself a earlier
 itself (Convert file out) a earlier = reads_itself a earlier
 itself (Arrive file out) a earlier = reads_itself a earlier
 itself (Inspect w i) a earlier = reads_itself a earlier
+
+stands : (c : Command) (a : HostView) → (a.tells ≡ true → SinceEarlier a.left) → Stands c a a
+stands (Solo w) a earlier = reads_itself a earlier
+stands (Replay w journal) a earlier = reads_itself a earlier
+stands (Run w) a earlier = reads_itself a earlier
+stands (Show config) a earlier = reads_itself a earlier
+stands (Asm file out) a earlier = reads_writes a a (λ q. q ≡ out) (reads_itself a earlier)
+stands (Make cpus number) a earlier = reads_itself a earlier
+stands (Convert file out) a earlier = reads_itself a earlier
+stands (Arrive file out) a earlier = reads_itself a earlier
+stands (Inspect w i) a earlier = reads_itself a earlier
 
 module _ {A B : Type 0} (see : A → HostView) (watch : B → SinkView) (host : A) (console : B) (earlier : (see host).tells ≡ true → SinceEarlier (see host).left) where
   spent_done : (c : Command) → Contains (done_statuses c) 71
@@ -111,7 +144,7 @@ module _ {A B : Type 0} (see : A → HostView) (watch : B → SinkView) (host : 
   not_built files (Replay w journal) word is can = let e : None ≡ Some word = sym can.0 ∙ is in cc
   not_built files (Run w) word is can = can
   not_built files (Show config) word is can = can
-  not_built files (Asm file out) word is can = can
+  not_built files (Asm file out) word is can = let e : None ≡ Some word = is in cc
   not_built files (Make cpus number) word is can = can
   not_built files (Convert file out) word is can = can
   not_built files (Arrive file out) word is can = can
@@ -131,7 +164,7 @@ module _ {A B : Type 0} (see : A → HostView) (watch : B → SinkView) (host : 
         console_part = tt;
         silent = refl;
         files = itself c (see host) earlier;
-        still = reads_itself (see host) earlier;
+        still = stands c (see host) earlier;
         causes = no_causes 71 (see host) (watch console) (λ e. omega (arith, e)) (λ e. omega (arith, e)) (λ e. omega (arith, e));
         completeness = λ told can calm. spent_done c;
         refusal = λ told must. (2, omega arith, refl);
@@ -153,7 +186,7 @@ module _ {A B : Type 0} (see : A → HostView) (watch : B → SinkView) (host : 
         console_part = tt;
         silent = refl;
         files = itself c (see host) earlier;
-        still = reads_itself (see host) earlier;
+        still = stands c (see host) earlier;
         causes = no_causes 3 (see host) (watch console) (λ e. omega (arith, e)) (λ e. omega (arith, e)) (λ e. omega (arith, e));
         completeness = λ told can calm. absurd (not_built (see host).file c word un can);
         refusal = λ told must. (0, omega arith, refl);

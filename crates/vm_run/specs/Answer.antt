@@ -7,6 +7,7 @@ use Rattle.vm_host.specs.Leaves.{ReadsHost, WritesFile, LeavesSink, Takes, Takes
 use Rattle.vm_host.specs.Views.{HostView, SinkView}
 use Rattle.vm_journal.specs.Spelling.{spelling}
 use Rattle.vm_replay.specs.Replaying.{IsFirstBad}
+use Rattle.vm_law.specs.declared.image.FlatImage.{FlatImage}
 use Rattle.vm_machine.specs.declared.start.Start.{Start}
 use Rattle.vm_machine.specs.declared.state.Why.{Why}
 use Rattle.vm_machine.specs.declared.state.Why.TheVariants as why
@@ -15,11 +16,12 @@ use Rattle.vm_machine.specs.Rounds.{IsSolo}
 use Rattle.vm_machine.specs.Turns.{IsOrderly}
 use Rattle.vm_cmd.specs.Word.{Word}
 use Rattle.vm_cmd.specs.declared.command.Command.{Command}
-use Rattle.vm_cmd.specs.declared.command.Command.TheVariants.{Solo, Replay}
+use Rattle.vm_cmd.specs.declared.command.Command.TheVariants.{Solo, Replay, Asm}
 use Rattle.vm_cmd.specs.declared.command.RunWords.{RunWords}
 use Rattle.vm_run.specs.declared.outcome.Ending.{Ending}
 use Rattle.vm_run.specs.declared.outcome.Ending.TheVariants as how
 use Rattle.vm_run.specs.declared.outcome.Kept.{Kept}
+use Rattle.vm_run.specs.Assembling.{IsAssembly, IsAssemblyFault, HoldsImage}
 use Rattle.vm_run.specs.Cut.{IsCutOff}
 use Rattle.vm_run.specs.Ends.{ending_status, IsNamed, HasCauses, NoneRose}
 use Rattle.vm_run.specs.Files.{IsJournal, IsJournalFault, IsFileOf, IsRefused, IsRefusedAt}
@@ -145,16 +147,35 @@ pub data ReplayAnswers (o : Outside) (w : RunWords) (journal : Word) (ending : E
   -- the host refused to read it
   unread : kept ≡ None → IsNamed w.file o.host_now → ending ≡ how.Refused (HostFault w.file) → ReplayAnswers o w journal ending kept
 
+-- what `asm` answers, from one file to another
+pub data AsmAnswers (host host_now : HostView) (file out : Word) (ending : Ending) : Type 0 where
+  -- the image that the text spells stands in OUT
+  assembled : (f : FlatImage) → IsFileOf host.tells (host.file file) IsAssembly f → HoldsImage out f host host_now → ending ≡ how.Done
+      → AsmAnswers host host_now file out ending
+  -- the text spells one, and the host refused it
+  unwritten : (f : FlatImage) → IsFileOf host.tells (host.file file) IsAssembly f → IsNamed out host_now → ending ≡ how.Refused (HostFault out)
+      → AsmAnswers host host_now file out ending
+  -- the text spells none: its first fault, and no file changed
+  refused : (at : ℕ) (kind : Kind) → IsRefusedAt host.tells (host.file file) IsAssembly IsAssemblyFault at kind → ReadsHost host host_now
+      → ending ≡ how.Refused (Bad roles.Assembly file at kind) → AsmAnswers host host_now file out ending
+  -- there is no such file, and none changed
+  missing : WhereTold host.tells (host.file file ≡ None) → ReadsHost host host_now → ending ≡ how.Refused (Missing file) → AsmAnswers host host_now file out ending
+  -- the host refused to read it, and none changed
+  unread : IsNamed file host_now → ReadsHost host host_now → ending ≡ how.Refused (HostFault file) → AsmAnswers host host_now file out ending
+  -- memory is out
+  spent : ending ≡ how.Refused Memory → AsmAnswers host host_now file out ending
+
 -- what a command answers and keeps
 pub data Answers (command : Command) (o : Outside) (ending : Ending) (kept : Option Kept) : Type 0 where
   ran_solo : (w : RunWords) → command ≡ Solo w → unbuilt_option w ≡ None → SoloAnswers o w ending kept → Answers command o ending kept
   ran_replay : (w : RunWords) (journal : Word) → command ≡ Replay w journal → unbuilt_option w ≡ None → ReplayAnswers o w journal ending kept → Answers command o ending kept
+  ran_asm : (file out : Word) → command ≡ Asm file out → kept ≡ None → AsmAnswers o.host o.host_now file out ending → Answers command o ending kept
   -- the command, or an option of it, isn't built yet
   unbuilt_yet : (word : Word) → unbuilt command ≡ Some word → kept ≡ None → ending ≡ how.Refused (Bad roles.Start word 0 kinds.Later) → Answers command o ending kept
   -- memory is out
   spent : ending ≡ how.Refused Memory → Answers command o ending kept
 
--- a run that a command keeps; a command that isn't built yet keeps none
+-- a run that a command keeps; `asm` and a command that isn't built yet keep none
 abbrev pub IsKeptOf : HostView → Command → Kept → Type 0
 IsKeptOf host (Solo w) k = IsRunOf host w k
 IsKeptOf host (Replay w journal) k = IsRunOf host w k
@@ -170,10 +191,16 @@ abbrev pub ChangesOnly : Option (List ℕ) → HostView → HostView → Type 0
 ChangesOnly None old new = ReadsHost old new
 ChangesOnly (Some name) old new = WritesFile name old new
 
--- what a command may change among the files: where it keeps nothing, none
+-- what a command may change among the files
 abbrev pub Changes : Command → HostView → HostView → Type 0
 Changes (Solo w) old new = ChangesOnly w.journal old new
+Changes (Asm file out) old new = WritesFile out old new
 Changes other old new = ReadsHost old new
+
+-- the same where no run is kept: none, but for OUT of `asm`
+abbrev pub Stands : Command → HostView → HostView → Type 0
+Stands (Asm file out) old new = WritesFile out old new
+Stands other old new = ReadsHost old new
 
 -- the files give what the command asks for
 abbrev pub CanDo : (List ℕ → Option (List ℕ)) → Command → Type 0
@@ -181,6 +208,7 @@ CanDo files (Solo w) = (unbuilt_option w ≡ None) × (IsTwice (Solo w) → ⊥)
 CanDo files (Replay w journal) =
     (unbuilt_option w ≡ None) × (w.file ≢ journal) × (start : Start) × (history : List Signed) × IsFileOf true (files w.file) (IsStart w.limit) start
     × IsFileOf true (files journal) IsJournal history × IsLegal start history
+CanDo files (Asm file out) = (f : FlatImage) × IsFileOf true (files file) IsAssembly f
 CanDo files other = ⊥
 
 -- a file of the command stands, and isn't what the command asks for; or the command isn't built yet
@@ -191,6 +219,7 @@ MustRefuse files (Replay w journal) =
     ⊎ ((start : Start) × IsFileOf true (files w.file) (IsStart w.limit) start
     × (IsRefused true (files journal) IsJournal
     ⊎ ((history : List Signed) × IsFileOf true (files journal) IsJournal history × (IsLegal start history → ⊥))))
+MustRefuse files (Asm file out) = IsRefused true (files file) IsAssembly
 MustRefuse files other = Unit {0}
 
 -- the statuses of a command whose words are right
@@ -231,9 +260,9 @@ pub record Does {A B : Type 0} (see : A → HostView) (watch : B → SinkView) (
   -- the console took a first part of what the guest of the kept history sent, and nothing where no run is kept
   pub console_part : IfSome kept (λ k. TakesSome (sent_in k) (watch console) (watch console_now))
   pub silent : IfNone kept (console_now ≡ console)
-  -- no file but the journal's changed, and none where no run is kept
+  -- no file but JOURNAL or OUT changed, and where no run is kept none but OUT
   pub files : Changes command (see host) (see host_now)
-  pub still : IfNone kept (ReadsHost (see host) (see host_now))
+  pub still : IfNone kept (Stands command (see host) (see host_now))
   -- a refusal of host or console has its status, and the status of a refusal has its cause
   pub causes : HasCauses (ending_status ending) (see host) (see host_now) (watch console) (watch console_now)
   -- what the files allow is done where nobody refuses, and what they don't allow is refused

@@ -1,5 +1,6 @@
 pub mod Actors
 pub mod Answer
+pub mod Assembling
 pub mod Closing
 pub mod Cut
 pub mod Ends

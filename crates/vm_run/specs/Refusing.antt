@@ -4,6 +4,10 @@ use Rattle.ckpt_store.specs.declared.loading.LoadFault.{LoadFault}
 use Rattle.ckpt_store.specs.declared.loading.LoadFault.TheVariants as loading
 use Rattle.vm_host.specs.declared.host.HostFault as host_fault
 use Rattle.vm_host.specs.declared.host.HostFault.TheVariants as host
+use Rattle.vm_asm.specs.declared.fault.AsmError.{AsmError}
+use Rattle.vm_asm.specs.declared.fault.AsmError.TheVariants as asm_error
+use Rattle.vm_asm.specs.declared.fault.AsmKind.{AsmKind}
+use Rattle.vm_asm.specs.declared.fault.AsmKind.TheVariants as asm
 use Rattle.vm_image.specs.declared.error.ImageError.{ImageError}
 use Rattle.vm_image.specs.declared.error.ImageError.TheVariants as image_error
 use Rattle.vm_image.specs.declared.error.ImageKind.{ImageKind}
@@ -36,6 +40,15 @@ journal_kind journal.Tag = kinds.Tag
 journal_kind journal.Value = kinds.Value
 journal_kind journal.Trailing = kinds.Trailing
 
+abbrev pub asm_kind : AsmKind → Kind
+asm_kind asm.Text = kinds.Text
+asm_kind asm.Word = kinds.Word
+asm_kind asm.Operand = kinds.Operand
+asm_kind asm.Label = kinds.Label
+asm_kind asm.Range = kinds.Range
+asm_kind asm.Twice = kinds.Twice
+asm_kind asm.Large = kinds.Large
+
 -- ---- refusals, of the file of this name
 
 abbrev pub after_host : List ℕ → host_fault.HostFault → Refusal
@@ -55,3 +68,7 @@ after_image name image_error.Memory = Memory
 abbrev pub after_decode : List ℕ → JournalError → Refusal
 after_decode name (journal_error.Fault at k) = Bad roles.Journal name at (journal_kind k)
 after_decode name journal_error.Memory = Memory
+
+abbrev pub after_asm : List ℕ → AsmError → Refusal
+after_asm name (asm_error.Fault line k) = Bad roles.Assembly name line (asm_kind k)
+after_asm name asm_error.Memory = Memory

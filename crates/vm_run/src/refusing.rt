@@ -1,8 +1,9 @@
 //! From what is wrong with a file to the refusal that says so.
 ghost use Rattle.std.specs.Prelude.{◌≡◌};
-ghost use Rattle.vm_run.specs.Refusing.{image_kind, journal_kind, after_host, after_load, after_image, after_decode};
+ghost use Rattle.vm_run.specs.Refusing.{image_kind, journal_kind, asm_kind, after_host, after_load, after_image, after_decode, after_asm};
 
 use ckpt_store::LoadFault;
+use vm_asm::{AsmError, AsmKind};
 use vm_host::HostFault;
 use vm_image::{ImageError, ImageKind};
 use vm_journal::{JournalError, JournalKind};
@@ -33,6 +34,21 @@ fn journal_kind(kind: JournalKind) -> Kind
         JournalKind::Tag => Kind::Tag,
         JournalKind::Value => Kind::Value,
         JournalKind::Trailing => Kind::Trailing,
+    }
+}
+
+/// The kind of a fault in assembler text.
+fn asm_kind(kind: AsmKind) -> Kind
+    ensures { result ≡ asm_kind kind }
+{
+    match kind {
+        AsmKind::Text => Kind::Text,
+        AsmKind::Word => Kind::Word,
+        AsmKind::Operand => Kind::Operand,
+        AsmKind::Label => Kind::Label,
+        AsmKind::Range => Kind::Range,
+        AsmKind::Twice => Kind::Twice,
+        AsmKind::Large => Kind::Large,
     }
 }
 
@@ -89,5 +105,20 @@ pub(crate) fn after_decode(name: Text, error: JournalError) -> Refusal
             kind: journal_kind(kind),
         },
         JournalError::Memory => Refusal::Memory,
+    }
+}
+
+/// The refusal of a file whose text spells no image.
+pub(crate) fn after_asm(name: Text, error: AsmError) -> Refusal
+    ensures { result ≡ after_asm name error }
+{
+    match error {
+        AsmError::Fault { line, kind } => Refusal::Bad {
+            role: Role::Assembly,
+            name,
+            place: u64::from(line),
+            kind: asm_kind(kind),
+        },
+        AsmError::Memory => Refusal::Memory,
     }
 }

@@ -8,6 +8,7 @@ ghost use Rattle.vm_run.specs.Answer.{Does, Logs};
 ghost use Rattle.vm_run.specs.Ends.{ending_status};
 ghost use Rattle.vm_run.specs.Words.{HasLimit};
 
+use crate::assembling::asm;
 use crate::outcome::{Ending, Finish, Outcome};
 use crate::replaying::replay_file;
 use crate::solo::solo;
@@ -40,7 +41,7 @@ fn carry_out<H: Host, S: Sink>(
         },
         Command::Run(_) => later(alloc, "run"),
         Command::Show(_) => later(alloc, "show"),
-        Command::Asm(_, _) => later(alloc, "asm"),
+        Command::Asm(file, out) => asm(alloc, file.as_str(), out.as_str(), host),
         Command::Make { .. } => later(alloc, "make"),
         Command::Convert(_, _) => later(alloc, "convert"),
         Command::Arrive(_, _) => later(alloc, "arrive"),
@@ -77,7 +78,7 @@ fn outcome_of(finish: Finish) -> Outcome
 /// `solo FILE` reads the image file whole, runs its guest by the rounds of one thread for at most so many instructions as
 /// the words allow, and writes what the guest sends to the console; the run's journal is then written to its file if one is
 /// named. `replay FILE JOURNAL` reads both files, makes the journal's steps again from the image's start, and writes what its
-/// guest sent. Every other command, and the options `--restore` and `--state`, are refused as not built yet. The first
+/// guest sent. `asm FILE OUT` writes the image that a text of at most 1 MiB spells to OUT, which may be FILE. Every other command, and the options `--restore` and `--state`, are refused as not built yet. The first
 /// refusal of host or console decides the ending, and the log takes the line of a refusal.
 pub fn still_cmd<H: Host, S: Sink, L: Sink>(
     alloc: Global,

@@ -1,9 +1,9 @@
 use Rattle.std.proofs.Common.{List, ℕ, codes, ap, sym, subst, ◌∙◌}
 use Rattle.vm_cmd.specs.declared.command.Command.{Command}
-use Rattle.vm_cmd.specs.declared.command.Command.TheVariants.{Replay}
+use Rattle.vm_cmd.specs.declared.command.Command.TheVariants.{Replay, Asm}
 use Rattle.vm_run.specs.Answer.{Does}
 use Rattle.vm_run.specs.Words.{unbuilt}
-use Rattle.vm_run.proofs.Tops.{later_does, solo_does, replay_does}
+use Rattle.vm_run.proofs.Tops.{later_does, solo_does, replay_does, asm_does}
 use Rattle.vm_run.proofs.top.carry_out.Goals as goal
 
 pub returns-in-Some : goal.returns-in-Some
@@ -46,8 +46,15 @@ returns-in-Show g c =
 
 pub returns-in-Asm : goal.returns-in-Asm
 returns-in-Asm g c =
-    later_does g.H.Host.seen g.S.Sink.seen c.args.host.now c.args.console.now (λ told. g.met.H.Host.since_earlier c.args.host.now told) c.args.command.now (codes "asm")
-    c.later-in-Asm.result.ending c.later-in-Asm.result.kept (ap unbuilt c.in-Asm.is) c.later-in-Asm.ensures.kept c.later-in-Asm.ensures.ending
+    let e = c.asm.ensures in
+    let file = c.as_str-in-Asm.result.now in
+    let out = c.as_str-in-Asm-2.result.now in
+    let does : Does g.H.Host.seen g.S.Sink.seen (Asm file out) c.args.host.now c.asm.new.host c.args.console.now c.args.console.now c.asm.result.ending c.asm.result.kept =
+    asm_does g.H.Host.seen g.S.Sink.seen c.args.host.now c.asm.new.host c.args.console.now file out c.asm.result.ending c.asm.result.kept
+    e.kept e.answers (e.causes (g.S.Sink.seen c.args.console.now)) e.host in
+    subst (λ (x : Command). Does g.H.Host.seen g.S.Sink.seen x c.args.host.now c.asm.new.host c.args.console.now c.args.console.now c.asm.result.ending c.asm.result.kept) (sym c.in-Asm.is)
+    (subst (λ (o : List ℕ). Does g.H.Host.seen g.S.Sink.seen (Asm c.in-Asm.file o) c.args.host.now c.asm.new.host c.args.console.now c.args.console.now c.asm.result.ending c.asm.result.kept) c.as_str-in-Asm-2.ensures
+    (subst (λ (f : List ℕ). Does g.H.Host.seen g.S.Sink.seen (Asm f out) c.args.host.now c.asm.new.host c.args.console.now c.args.console.now c.asm.result.ending c.asm.result.kept) c.as_str-in-Asm.ensures does))
 
 pub returns-in-Make : goal.returns-in-Make
 returns-in-Make g c =
