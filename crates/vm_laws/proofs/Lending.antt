@@ -1,19 +1,16 @@
 -- While a pass holds the image of a disk: every entry of another pass.
 use Rattle.std.proofs.Common.{◌≡◌, ◌≢◌, ℕ, ◌+◌, ◌<◌, Bool, true, false, not, List, length, get_or, refl, sym, ap, subst, ◌∙◌, inl, inr, ◌⊎◌, arith, Option, Some, None}
-use Rattle.std.specs.Prelude.{◌&&◌, ◌==◌, is_none, Result, Ok, Err, if◌then◌else◌}
+use Rattle.std.specs.Prelude.{◌&&◌, ◌==◌, is_none, if◌then◌else◌}
 use Rattle.std.proofs.lemmas.List.{get_or-set_other, set_past}
 use Rattle.std.proofs.lemmas.Bool.{cases_eq, cases_lt, and_parts, true≢false}
 use Rattle.std.proofs.lemmas.Bool.Decides.{nat_tests}
 use Rattle.std.proofs.lemmas.Grind.{common_steps}
-use Rattle.vm_law.specs.declared.context.Ctx.{Ctx}
-use Rattle.vm_law.specs.declared.context.Stop.{Stop}
 use Rattle.vm_law.specs.declared.insn.Insn.{Insn}
 use Rattle.vm_law.specs.declared.journal.Entry.{Entry}
 use Rattle.vm_law.specs.declared.journal.Entry.TheVariants.{Claim, Start, Enter, Slice, Step, Exit, Sleep, Wake, Yield, Turn, Meet, Pull, Begin, Move, Hold, Put, Finish, Feed, Wish, Done, End, Close, Tick}
 use Rattle.vm_law.specs.declared.journal.Signed.{Signed}
 use Rattle.vm_law.specs.declared.script.Order.{Order}
 use Rattle.vm_law.specs.declared.script.Order.TheVariants as order
-use Rattle.vm_lapic.specs.Apic.{ready}
 use Rattle.vm_vblk.specs.Queue as vblk
 use Rattle.vm_vblk.specs.declared.pulled.Pulled.{Pulled}
 use Rattle.vm_vblk.specs.declared.pulled.Pulled.TheVariants as pulled
@@ -22,18 +19,16 @@ use Rattle.x86_exec.specs.declared.effect.Effect.TheVariants as effect
 use Rattle.x86_exec.specs.Shared as exec
 use Rattle.x86_fetch.specs.declared.fetching.Next.{Next}
 use Rattle.x86_fetch.specs.declared.fetching.Next.TheVariants.{Local, Shared, Undefined, OutOfCode}
-use Rattle.x86_trap.specs.Delivery.{delivered, Delivered}
 use Rattle.blk_queue.specs.Progress.{moves, one_more, is_waiting}
 use Rattle.blk_queue.specs.Queue.{Queue, request_of, some_request}
 use Rattle.blk_queue.specs.Sound.{NamesOne}
 use Rattle.blk_queue.specs.Steps.{begun, cancelled, emptied, left, with_progress}
 use Rattle.blk_queue.proofs.Names.{names_one}
 use Rattle.vm_meet.specs.declared.meeting.Meeting.{Meeting}
-use Rattle.vm_state.specs.declared.cpu.Cpu.{Cpu}
 use Rattle.vm_state.specs.declared.drive.Drive.{Drive}
 use Rattle.vm_state.specs.declared.image.DiskImage.{DiskImage}
 use Rattle.vm_state.specs.declared.image.Holder.{Holder}
-use Rattle.vm_state.specs.Machine.{MachineState, cpu_at, drive_at, drive_count, with_drive, no_drive, takes_nmi, takes_vector}
+use Rattle.vm_state.specs.Machine.{MachineState, cpu_at, drive_at, drive_count, with_drive, no_drive}
 use Rattle.vm_state.specs.Requests.{is_busy_by}
 use Rattle.vm_state.specs.Sound.{IsHeld, IsSoundState}
 use Rattle.vm_state.specs.State.{State, image_at, next_order, no_image, with_machine}
@@ -41,9 +36,10 @@ use Rattle.vm_owners.specs.Owners.{after_claim, after_start, after_exit, after_s
 use Rattle.vm_owners.specs.Turn.{turn_in, after_turn}
 use Rattle.vm_devices.specs.Ports.{port_read, port_written}
 use Rattle.vm_devices.specs.Windows.{with_window, window_written}
-use Rattle.vm_running.specs.Enter.{stopped_at, entered, settled, delivered_in, taken, nmi_taken, vector_taken, interrupt_taken, after_enter}
-use Rattle.vm_running.specs.Slice.{spent, after_slice}
-use Rattle.vm_running.specs.Step.{next_at, stepped_to, stored_in, after_trap, trapped, performed_as, performed, after_step, printed, port_in, port_out, window_load, window_store}
+use Rattle.vm_running.specs.Enter.{after_enter}
+use Rattle.vm_running.specs.Slice.{after_slice}
+use Rattle.vm_running.specs.Step.{next_at, performed_as, performed, after_step, printed, port_in, port_out, window_load, window_store}
+use Rattle.vm_running.proofs.Images.{enter_images, slice_images, stepped_images, stopped_images, stored_images, trapped_images}
 use Rattle.vm_disks.specs.Queueing.{may_pull, queue_with, pulled_in, after_pull, may_begin, with_queue, after_begin}
 use Rattle.vm_disks.specs.Moving.{is_held_for, may_move, read_in, after_move, may_finish, after_finish}
 use Rattle.vm_disks.specs.Images.{may_hold, after_hold, is_holder, may_put, after_put}
@@ -69,43 +65,6 @@ Images s t d = ImageAccessed (image_at s d) (image_at t d)
 images_by : (s t : State) (d : ℕ) → t.images ≡ s.images → Images s t d
 images_by s t d e = subst (λ (xs : List DiskImage). ImageAccessed (image_at s d) (get_or xs d no_image)) (sym e) (image_same (image_at s d))
 
-settled_images : (s : State) (i : ℕ) (d : Delivered) (r : Result (Unit {0}) Stop) → (settled s i d r).images ≡ s.images
-unfolding settled stopped_at
-settled_images s i d (Ok u) = refl
-settled_images s i d (Err why) = refl
-
-taken_images : (s : State) (i : ℕ) (c : Cpu) (v : ℕ) (nmi : Bool) → (delivered_in (taken s i c) i v nmi).images ≡ s.images
-taken_images s i c v nmi =
-    let t = taken s i c in
-    let d = delivered (cpu_at t.machine i).ctx t.machine.ram v None nmi in
-    settled_images t i d d.answer
-
-nmi_images : (s : State) (i : ℕ) → (nmi_taken s i).images ≡ s.images
-unfolding nmi_taken
-nmi_images s i = taken_images s i _ 2 true
-
-vector_images : (s : State) (i : ℕ) (o : Option ℕ) → (vector_taken s i o).images ≡ s.images
-unfolding vector_taken
-vector_images s i None = refl
-vector_images s i (Some v) = taken_images s i _ v false
-
-interrupt_if : (s : State) (i : ℕ) (a b : Bool) → (if a then nmi_taken s i else if b then vector_taken s i (ready (cpu_at s.machine i).lapic) else s).images ≡ s.images
-interrupt_if s i true b = nmi_images s i
-interrupt_if s i false true = vector_images s i _
-interrupt_if s i false false = refl
-
-interrupt_images : (s : State) (i : ℕ) → (interrupt_taken s i).images ≡ s.images
-unfolding interrupt_taken
-interrupt_images s i = interrupt_if s i (takes_nmi (cpu_at s.machine i)) (takes_vector (cpu_at s.machine i))
-
-entered_images : (s : State) (p i grant : ℕ) → (entered s p i grant).images ≡ s.images
-unfolding entered
-entered_images s p i grant = refl
-
-enter_images : (s : State) (p i grant : ℕ) → (after_enter s p i grant).images ≡ s.images
-unfolding after_enter
-enter_images s p i grant = interrupt_images (entered s p i grant) i ∙ entered_images s p i grant
-
 turn_in_images : (s : State) (i : ℕ) (o : Option Meeting) → (turn_in s i o).images ≡ s.images
 turn_in_images s i None = refl
 turn_in_images s i (Some x) = (taken_turn s i x.kind).same.1
@@ -113,31 +72,6 @@ turn_in_images s i (Some x) = (taken_turn s i x.kind).same.1
 turn_images : (s : State) (i : ℕ) → (after_turn s i).images ≡ s.images
 unfolding after_turn
 turn_images s i = turn_in_images s i s.machine.meet
-
-slice_images : (s : State) (i n : ℕ) → (after_slice s i n).images ≡ s.images
-unfolding after_slice spent
-slice_images s i n = refl
-
-stepped_images : (s : State) (j : ℕ) (c : Ctx) (halted : Bool) → (stepped_to s j c halted).images ≡ s.images
-unfolding stepped_to spent
-stepped_images s j c halted = refl
-
-stopped_images : (s : State) (j : ℕ) (why : Stop) → (stopped_at s j why).images ≡ s.images
-unfolding stopped_at
-stopped_images s j why = refl
-
-trap_images : (s : State) (j : ℕ) (d : Delivered) (r : Result (Unit {0}) Stop) → (after_trap s j d r).images ≡ s.images
-unfolding stepped_to spent
-trap_images s j d (Ok u) = refl
-trap_images s j d (Err why) = stopped_images s j why
-
-trapped_images : (s : State) (j rip v : ℕ) (error : Option ℕ) → (trapped s j rip v error).images ≡ s.images
-unfolding trapped
-trapped_images s j rip v error = let d = delivered (record (cpu_at s.machine j).ctx { rip = rip }) s.machine.ram v error false in trap_images s j d d.answer
-
-stored_images : (s : State) (j : ℕ) (x : exec.Shared) → (stepped_to (stored_in s x) j x.ctx false).images ≡ s.images
-unfolding stepped_to spent
-stored_images s j x = refl
 
 still : (s : State) (new : List DiskImage) (d : ℕ) → new ≡ s.images → ImageAccessed (image_at s d) (get_or new d no_image)
 still s new d e = subst (λ (xs : List DiskImage). ImageAccessed (image_at s d) (get_or xs d no_image)) (sym e) (image_same (image_at s d))

@@ -35,6 +35,3 @@ pub mod Telling
 pub mod Working
 pub mod Pages
 pub mod Laws
-pub mod Looking
-pub mod Starters
-pub mod Leasing

@@ -34,7 +34,7 @@ use Rattle.vm_rounds.proofs.Ticking.{tick_last}
 
 -- ---- from 40,000,000 entries on, before the end
 
-abbrev Nearer : ℕ → State → Type 0
+abbrev pub Nearer : ℕ → State → Type 0
 Nearer n t = (is_some t.ended ≡ true) ⊎ (before_last t < n)
 
 ended_or : (o : Option Why) → (is_some o ≡ true) ⊎ (o ≡ None)
@@ -54,7 +54,7 @@ others_nearer s (x ∷ xs) n f g o (inr l) =
     next (inl over) = inl over
     next (inr k) = inr (omega (arith, k, l))
 
-end_ends : (s : State) (c : EndCause) → is_some (after s (record { by = 0; entry = End c })).ended ≡ true
+pub end_ends : (s : State) (c : EndCause) → is_some (after s (record { by = 0; entry = End c })).ended ≡ true
 unfolding after effect counted after_end
 end_ends s c = refl
 
@@ -86,7 +86,7 @@ some_pass : (r : Rounds) → 0 < pass_count r.state.machine
 unfolding pass_count
 some_pass r = omega arith
 
-one_nearer : (r : Rounds) → Stand r → r.state.closed ≡ false → r.state.ended ≡ None → entry_limit ≤ r.state.entries → Nearer (before_last r.state) (after_round r).state × (entry_limit ≤ (after_round r).state.entries) × Stand (after_round r)
+pub one_nearer : (r : Rounds) → Stand r → r.state.closed ≡ false → r.state.ended ≡ None → entry_limit ≤ r.state.entries → Nearer (before_last r.state) (after_round r).state × (entry_limit ≤ (after_round r).state.entries) × Stand (after_round r)
 unfolding after_round
 one_nearer r h g n l =
     let p = passes_go r (pass_count r.state.machine) h in

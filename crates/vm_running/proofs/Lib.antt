@@ -9,3 +9,4 @@ pub mod Keeps
 pub mod KeepsEnter
 pub mod KeepsSlice
 pub mod KeepsStep
+pub mod Images

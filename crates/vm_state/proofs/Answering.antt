@@ -1,17 +1,13 @@
 -- A list of orders of which one changes but for what it asks.
-use Rattle.std.proofs.Common.{◌≡◌, ℕ, zero, suc, ◌+◌, ◌<◌, ◌≤◌, Bool, false, List, [], ◌∷◌, ◌++◌, length, get_or, set, take, drop, refl, sym, ap, subst, ◌∙◌, arith}
-use Rattle.std.specs.Prelude.{Some}
-use Rattle.std.specs.List.{sum_by, slice_get}
-use Rattle.std.proofs.lemmas.List.{length-set, get_or-set_same, length-map, take-set, take_more_set, drop-append-le, drop-set-lt}
-use Rattle.std.proofs.lemmas.List.Sums.{sum_by-cons, sum_by-drop_more}
+use Rattle.std.proofs.Common.{◌≡◌, ℕ, zero, suc, ◌+◌, ◌<◌, Bool, List, [], ◌∷◌, ◌++◌, length, get_or, set, take, drop, refl, sym, ap, subst, ◌∙◌, arith}
+use Rattle.std.specs.List.{sum_by}
+use Rattle.std.proofs.lemmas.List.{length-set, get_or-set_same, length-map, take-set}
+use Rattle.std.proofs.lemmas.List.Sums.{sum_by-cons}
 use Rattle.vm_law.specs.declared.script.Order.{Order}
 use Rattle.vm_state.specs.declared.run_state.Answer.{Answer}
 use Rattle.vm_state.specs.declared.run_state.Sample.{Sample}
 use Rattle.vm_state.specs.contracts.run_state.RunState.{the_view}
 use Rattle.vm_state.specs.declared.run_state.RunState.TheInside.{Inside}
-use Rattle.vm_state.specs.declared.run_state.Said.{Said}
-use Rattle.vm_state.specs.Orders.{answered}
-use Rattle.vm_state.specs.State.{next_order}
 use Rattle.vm_state.specs.View.{RunView, script_of, samples_of, input_length, bytes_in, IsReserved}
 
 -- ---- the order at a place
@@ -20,11 +16,6 @@ pub samples_at : (orders : List Answer) (k : ℕ) (d : Answer) → k < length or
 samples_at [] k d l = absurd (omega arith)
 samples_at (o ∷ os) zero d l = refl
 samples_at (o ∷ os) (suc k) d l = samples_at os k d (omega (arith, l))
-
-pub order_at : (orders : List Answer) (k : ℕ) (d : Answer) → k < length orders → slice_get (script_of orders) k ≡ Some (get_or orders k d).order
-order_at [] k d l = absurd (omega arith)
-order_at (o ∷ os) zero d l = refl
-order_at (o ∷ os) (suc k) d l = order_at os k d (omega (arith, l))
 
 -- ---- another answer stands there, to the same order
 
@@ -56,25 +47,6 @@ reserved_set orders place filled room x d e h = record {
   input = let same = room_set orders place x d e in let le = h.input in omega arith;
 }
 
--- ---- the order is done
-
--- its bytes have room
-pub room_at : (orders : List Answer) (place filled room : ℕ) (x : Answer) → place < length orders → x ≡ get_or orders place x → IsReserved orders place filled room
-    → filled + length (bytes_in x.order) + sum_by input_length (drop (place + 1) orders) ≤ room
-room_at orders place filled room x l e h =
-    let more = sum_by-drop_more input_length orders place x l in
-    let same = ap (λ (y : Answer). length (bytes_in y.order)) e in
-    let le = h.input in omega arith
-
-pub answered_reserved : (orders : List Answer) (place filled room : ℕ) (x y : Answer) → place < length orders → y ≡ get_or orders place y → IsReserved orders place filled room
-    → IsReserved (set orders place x) (place + 1) (filled + length (bytes_in y.order)) room
-answered_reserved orders place filled room x y l e h = record {
-  untouched = λ k past. samples_past orders place k x (omega arith) ∙ h.untouched k (omega arith);
-  input =
-      let fits = room_at orders place filled room y l e h in
-      let same = ap (λ (xs : List Answer). sum_by input_length xs) (drop-set-lt (place + 1) orders place x (omega arith)) in omega arith;
-}
-
 -- ---- what contracts see of it
 
 pub within : (r : Inside) (v : RunView) → the_view r ≡ v → v.state.place < length v.state.script → r.place < length r.orders
@@ -99,21 +71,3 @@ noted_view r x y sample l e order items =
     shown_same (the_view r) r.begun r.place _ (script_of r.orders) _ (drop r.fed r.input.items) _ (take r.place r.orders) _ (samples_of r.orders r.place ++ sample ∷ [])
     (script_set r.orders r.place x y (order ∙ ap (λ (z : Answer). z.order) e)) refl (take-set r.orders r.place x)
     (samples_set r.orders r.place x l ∙ items ∙ ap (λ xs. xs ++ sample ∷ []) (ap (λ (z : Answer). z.samples.items) e ∙ sym (samples_at r.orders r.place y l)))
-
-next_is : (r : Inside) (y : Answer) → r.place < length r.orders → y ≡ get_or r.orders r.place y → next_order (the_view r).state ≡ Some y.order
-unfolding next_order
-next_is r y l e = order_at r.orders r.place y l ∙ ap (λ (z : Answer). Some z.order) (sym e)
-
-pub answered_view : (r : Inside) (y : Answer) (said : Said) (items : List ℕ) → r.place < length r.orders → y ≡ get_or r.orders r.place y → items ≡ r.input.items ++ bytes_in y.order
-    → r.fed ≤ length r.input.items → ((k : ℕ) → r.place < k → samples_of r.orders k ≡ [])
-    → let x : Answer = record { order = y.order; said = said; samples = y.samples } in
-    shown (the_view r) false (r.place + 1) (script_of (set r.orders r.place x)) (drop r.fed items) (take (r.place + 1) (set r.orders r.place x)) (samples_of (set r.orders r.place x) (r.place + 1))
-    ≡ record (the_view r) { state = answered (the_view r).state (next_order (the_view r).state) said }
-answered_view r y said items l e is fed none =
-    let x : Answer = record { order = y.order; said = said; samples = y.samples } in
-    let z : Answer = record { order = y.order; said = said; samples = record { items = samples_of r.orders r.place } } in
-    let noted : x ≡ z = ap (λ xs. record { order = y.order; said = said; samples = record { items = xs } }) (ap (λ (w : Answer). w.samples.items) e ∙ sym (samples_at r.orders r.place y l)) in
-    shown_same (the_view r) false (r.place + 1) _ (script_of r.orders) _ (drop r.fed r.input.items ++ bytes_in y.order) _ (take r.place r.orders ++ z ∷ []) _ []
-    (script_set r.orders r.place x y (ap (λ (w : Answer). w.order) e)) (ap (λ xs. drop r.fed xs) is ∙ drop-append-le r.fed r.input.items (bytes_in y.order) fed)
-    (take_more_set r.orders r.place x l ∙ ap (λ w. take r.place r.orders ++ w ∷ []) noted) (samples_past r.orders r.place (r.place + 1) x (omega arith) ∙ none (r.place + 1) (omega arith))
-    ∙ ap (λ o. record (the_view r) { state = answered (the_view r).state o said }) (sym (next_is r y l e))

@@ -6,4 +6,3 @@ pub mod Script
 pub mod Sound
 pub mod Start
 pub mod Lending
-pub mod Orders

@@ -2,3 +2,4 @@ pub mod Keeps
 pub mod Firsts
 pub mod PlanParts
 pub mod Plan
+pub mod Looking

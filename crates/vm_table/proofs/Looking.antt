@@ -1,19 +1,22 @@
--- What a runner ran ahead goes by the pages that it looked at alone.
+-- What runs ahead goes by the pages that it looked at alone.
 use Rattle.std.specs.Prelude.{◌&&◌, nat_lt, if◌then◌else◌, min}
 use Rattle.std.specs.List.{flat_map, list_all, range_with_len}
-use Rattle.std.proofs.Common.{◌≡◌, ◌⊎◌, ℕ, zero, suc, ◌+◌, ◌-◌, ◌*◌, ◌/◌, ◌%◌, ◌<◌, ◌≤◌, Bool, true, false, List, [], ◌∷◌, length, drop, get_or, refl, sym, ap, subst, ◌∙◌, inl, inr, arith}
+use Rattle.std.proofs.Common.{◌≡◌, ◌⊎◌, ℕ, zero, suc, ◌+◌, ◌-◌, ◌*◌, ◌/◌, ◌%◌, ◌<◌, ◌≤◌, Bool, true, false, List, [], ◌∷◌, length, take, drop, get_or, refl, sym, ap, subst, ◌∙◌, inl, inr, arith}
 use Rattle.std.proofs.lemmas.Bool.{cases_lt, and_parts, true≢false, lt-ltb}
 use Rattle.std.proofs.lemmas.List.{ext_get_or, get_or_past, get_or-take, get_or-drop, length-take, length-drop}
 use Rattle.std.proofs.lemmas.List.Folds.{list_all-append}
 use Rattle.vm_law.specs.declared.context.Ctx.{Ctx}
 use Rattle.x86_fetch.specs.Fetching.{is_local_next, fetched, next_decoded, next_of}
-use Rattle.x86_fetch.specs.Slices.{after_next, all_local, most_local, stands_local, stepped, stepped_by}
+use Rattle.x86_fetch.specs.Slices.{after_next, all_local, stands_local, stepped, stepped_by}
 use Rattle.x86_decode.specs.Reading.{decoded}
-use Rattle.vm_table.specs.Rounds.{fetched_from, looked_at, pages_looked}
-use Rattle.vm_laws.proofs.Touching.{page_in}
+use Rattle.vm_table.specs.Rounds.{fetched_from, looked_at}
+
+-- page k of the code, of 4,096 bytes; the last may be cut by the code's end
+abbrev page_in : List ℕ → ℕ → List ℕ
+page_in code k = take 4096 (drop (4096 * k) code)
 
 -- the code now has a page as it was
-abbrev Same : List ℕ → List ℕ → ℕ → Type 0
+abbrev pub Same : List ℕ → List ℕ → ℕ → Type 0
 Same old now page = page_in now page ≡ page_in old page
 
 byte_in : (code : List ℕ) (j : ℕ) → get_or (page_in code (j / 4096)) (j % 4096) 0 ≡ get_or code j 0
@@ -33,7 +36,7 @@ two at size j l low high inside =
       | inr there ↦ inr (omega arith)
     ]
 
-abbrev BothSame : List ℕ → List ℕ → ℕ → Type 0
+abbrev pub BothSame : List ℕ → List ℕ → ℕ → Type 0
 BothSame old now at = Same old now (at / 4096) × Same old now ((min (at + 15) (length old) - 1) / 4096)
 
 fetched_byte : (old now : List ℕ) (at j : ℕ) → length now ≡ length old → at < length old → BothSame old now at → at ≤ j → j < at + 15 → get_or now j 0 ≡ get_or old j 0
@@ -71,7 +74,7 @@ module _ (old now : List ℕ) (P : ℕ → Bool) (tells : (page : ℕ) → P pag
   unfolding next_of
   next_same d h = ap (λ (bytes : List ℕ). next_decoded d (decoded bytes)) (fetched_same old now d.rip size (λ l. at_if d.rip _ refl h l))
 
-  each_at : (a n k : ℕ) → list_all P (flat_map (looked_at old c) (range_with_len a n)) ≡ true → a ≤ k → k < a + n → list_all P (looked_at old c k) ≡ true
+  pub each_at : (a n k : ℕ) → list_all P (flat_map (looked_at old c) (range_with_len a n)) ≡ true → a ≤ k → k < a + n → list_all P (looked_at old c k) ≡ true
   each_at a zero k h low high = absurd (omega arith)
   each_at a (suc n) k h low high =
       let t = and_parts (list_all P (looked_at old c a)) _ (sym (list_all-append P (looked_at old c a) (flat_map (looked_at old c) (range_with_len (a + 1) n))) ∙ h) in
@@ -81,14 +84,14 @@ module _ (old now : List ℕ) (P : ℕ → Bool) (tells : (page : ℕ) → P pag
       ]
 
   -- so far as each fetch was looked at
-  stepped_same : (k : ℕ) → ((j : ℕ) → j < k → list_all P (looked_at old c j) ≡ true) → stepped_by now c k ≡ stepped_by old c k
+  pub stepped_same : (k : ℕ) → ((j : ℕ) → j < k → list_all P (looked_at old c j) ≡ true) → stepped_by now c k ≡ stepped_by old c k
   unfolding stepped
   stepped_same zero h = refl
   stepped_same (suc k) h =
       let before = stepped_same k (λ j l. h j (omega (arith, l))) in
       ap (λ (d : Ctx). after_next d (next_of now d)) before ∙ ap (λ x. after_next (stepped_by old c k) x) (next_same (stepped_by old c k) (h k (omega arith)))
 
-  local_same : (k : ℕ) → ((j : ℕ) → j < k → list_all P (looked_at old c j) ≡ true) → all_local now c k ≡ all_local old c k
+  pub local_same : (k : ℕ) → ((j : ℕ) → j < k → list_all P (looked_at old c j) ≡ true) → all_local now c k ≡ all_local old c k
   unfolding stands_local
   local_same zero h = refl
   local_same (suc k) h =
@@ -96,31 +99,3 @@ module _ (old now : List ℕ) (P : ℕ → Bool) (tells : (page : ℕ) → P pag
       let steps = stepped_same k (λ j l. h j (omega (arith, l))) in
       let last : stands_local now (stepped_by now c k) ≡ stands_local old (stepped_by old c k) = ap (λ (d : Ctx). stands_local now d) steps ∙ ap (λ x. is_local_next x) (next_same (stepped_by old c k) (h k (omega arith))) in
       ap (λ b. b && stands_local now (stepped_by now c k)) before ∙ ap (λ b. all_local old c k && b) last
-
--- what was local over the old code is local over the new one
-pub still_local : (old now : List ℕ) (P : ℕ → Bool) → ((page : ℕ) → P page ≡ true → page_in now page ≡ page_in old page) → length now ≡ length old → (c : Ctx) (n granted : ℕ) → n ≤ granted
-    → list_all P (pages_looked old c n granted) ≡ true → all_local old c n ≡ true → all_local now c n ≡ true
-still_local old now P tells size c n granted few h local =
-    local_same old now P tells size c n (λ j l. each_at old now P tells size c 0 (min (n + 1) granted) j h (omega arith) (omega (arith, l, few))) ∙ local
-
--- the most that are local are local, and no more than were asked for
-pub most_fits : (code : List ℕ) (c : Ctx) (n : ℕ) → (all_local code c (most_local code c n) ≡ true) × (most_local code c n ≤ n)
-most_fits code c zero = (refl, omega arith)
-most_fits code c (suc n) =
-    let rest = most_fits code c n in
-    most_if (all_local code c (suc n)) refl rest
-  where
-    most_if : (b : Bool) → all_local code c (suc n) ≡ b → (all_local code c (most_local code c n) ≡ true) × (most_local code c n ≤ n)
-        → (all_local code c (if b then suc n else most_local code c n) ≡ true) × ((if b then suc n else most_local code c n) ≤ suc n)
-    most_if true e rest = (e, omega arith)
-    most_if false e rest = (rest.0, omega (arith, rest.1))
-
--- where the next instruction is local, at least one is
-pub some_most : (code : List ℕ) (c : Ctx) (n : ℕ) → 0 < n → all_local code c 1 ≡ true → 0 < most_local code c n
-some_most code c zero some local = absurd (omega arith)
-some_most code c (suc zero) some local = rw local (omega arith)
-some_most code c (suc (suc n)) some local = some_if _ (some_most code c (suc n) (omega arith) local)
-  where
-    some_if : (b : Bool) → 0 < most_local code c (suc n) → 0 < (if b then suc (suc n) else most_local code c (suc n))
-    some_if true h = omega arith
-    some_if false h = h
