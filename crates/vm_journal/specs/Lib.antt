@@ -2,3 +2,4 @@ pub mod Reading
 pub mod Refusing
 pub mod Replaying
 pub mod Spelling
+pub mod Kind

@@ -28,7 +28,7 @@ pub struct History {
 #[derive(Clone, Copy, Debug, PartialEq, Eq, Error)]
 pub enum HistoryError {
     /// The bytes spell no journal: their first fault, and the place of its byte, counted from 0.
-    #[error("at {at}: {kind:?}")]
+    #[error("at {at}: {kind}")]
     Fault { at: u64, kind: JournalKind },
     /// They spell one, whose entry at this place, counted from 0, is the first that isn't lawful where it stands.
     #[error("the entry at {at} isn't lawful")]
