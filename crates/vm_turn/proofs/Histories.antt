@@ -1,5 +1,8 @@
 -- The entries of one number, and prefixes.
-use Rattle.std.proofs.Common.{◌≡◌, ◌≢◌, ℕ, ◌≤◌, Bool, true, false, cond, List, [], ◌∷◌, ◌++◌, length, sym, refl, ap, ◌∙◌, arith, ne_eqb, eqb, length-append, drop, append-nil, append_assoc, nat_lt, ltb-true}
+use Rattle.std.proofs.Common.{◌≡◌, ◌≢◌, ℕ, ◌≤◌, ◌<◌, ◌⊎◌, inl, inr, Bool, false, cond, List, [], ◌∷◌, ◌++◌, length, sym, refl, ap, subst, ◌∙◌, arith, ne_eqb, eqb, length-append, drop, append-nil, append_assoc}
+use Rattle.std.proofs.Math.Seq.{drop-append_seam}
+use Rattle.std.proofs.lemmas.Bool.{cases_lt}
+use Rattle.std.proofs.lemmas.List.{drop_all}
 use Rattle.std.proofs.lemmas.List.Elements.{filter-append, All-head, All-tail}
 use Rattle.vm_law.specs.declared.journal.Signed.{Signed}
 use Rattle.vm_turn.specs.History.{signed_by, AllBy, StartsWith, longer}
@@ -52,14 +55,18 @@ goes_on (x ∷ xs) (y ∷ ys) p q e le =
 
 -- the longer of two beginnings is a beginning, and has as much of n as the first, where that has all of n
 pub longer_begins : (n : ℕ) (log xs ys : List Signed) → StartsWith log xs → StartsWith log ys → signed_by n log ≡ signed_by n xs → StartsWith log (longer xs ys) × (signed_by n log ≡ signed_by n (longer xs ys))
-longer_begins n log xs ys a b e = by_length (nat_lt (length xs) (length ys)) refl
+longer_begins n log xs ys a b e = by_length (cases_lt (length ys) (length xs))
   where
-    by_length : (t : Bool) → nat_lt (length xs) (length ys) ≡ t → StartsWith log (cond t ys xs) × (signed_by n log ≡ signed_by n (cond t ys xs))
-    by_length false is = (a, e)
-    by_length true is =
-        let le = ltb-true (length xs) (length ys) is in
-        let t = goes_on xs ys a.0 b.0 (sym a.1 ∙ b.1) (omega arith) in
+    by_length : (length ys < length xs) ⊎ (length xs ≤ length ys) → StartsWith log (longer xs ys) × (signed_by n log ≡ signed_by n (longer xs ys))
+    by_length (inl less) =
+        let none = drop_all (length xs) ys (omega (arith, less)) in
+        let same : longer xs ys ≡ xs = ap (λ (l : List Signed). xs ++ l) none ∙ append-nil xs in
+        (subst (λ (l : List Signed). StartsWith log l) (sym same) a, e ∙ ap (signed_by n) (sym same))
+    by_length (inr le) =
+        let t = goes_on xs ys a.0 b.0 (sym a.1 ∙ b.1) le in
+        let behind : drop (length xs) ys ≡ t.0 = ap (λ (l : List Signed). drop (length xs) l) t.1 ∙ drop-append_seam xs t.0 in
+        let same : longer xs ys ≡ ys = ap (λ (l : List Signed). xs ++ l) behind ∙ sym t.1 in
         let whole : log ≡ xs ++ (t.0 ++ b.0) = b.1 ∙ (ap (λ (l : List Signed). l ++ b.0) t.1 ∙ append_assoc xs t.0 b.0) in
         let none : signed_by n t.0 ≡ [] = none_before n t.0 b.0 (nothing_more n xs (t.0 ++ b.0) (sym (ap (signed_by n) whole) ∙ e)) in
-        let same : signed_by n ys ≡ signed_by n xs = ap (signed_by n) t.1 ∙ (signed_append n xs t.0 ∙ (ap (λ (l : List Signed). signed_by n xs ++ l) none ∙ append-nil (signed_by n xs))) in
-        (b, e ∙ sym same)
+        let own : signed_by n ys ≡ signed_by n xs = ap (signed_by n) t.1 ∙ (signed_append n xs t.0 ∙ (ap (λ (l : List Signed). signed_by n xs ++ l) none ∙ append-nil (signed_by n xs))) in
+        (subst (λ (l : List Signed). StartsWith log l) (sym same) b, e ∙ sym own ∙ ap (signed_by n) (sym same))

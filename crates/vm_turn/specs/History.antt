@@ -1,5 +1,5 @@
 -- A history is a list of entries, each with the number of the pass that added it.
-use Rattle.std.specs.Prelude.{◌≡◌, ℕ, List, ◌++◌, length, filter, All, ◌==◌, nat_lt, if◌then◌else◌}
+use Rattle.std.specs.Prelude.{◌≡◌, ℕ, List, ◌++◌, drop, length, filter, All, ◌==◌}
 use Rattle.vm_law.specs.declared.journal.Signed.{Signed}
 
 -- the entries of this number, in their order
@@ -18,6 +18,6 @@ StartsWith log seen = (rest : List Signed) × (log ≡ seen ++ rest)
 abbrev pub Adds : ℕ → List Signed → List Signed → Type 0
 Adds n before after = (new : List Signed) × (after ≡ before ++ new) × AllBy n new
 
--- the longer of two histories, and the first where they are as long
+-- the longer of two histories of which one begins with the other: the first, and what the second has behind that
 abbrev pub longer : List Signed → List Signed → List Signed
-longer xs ys = if nat_lt (length xs) (length ys) then ys else xs
+longer xs ys = xs ++ drop (length xs) ys
