@@ -16,7 +16,7 @@ use Rattle.vm_table.specs.History.{last_state}
 use Rattle.vm_table.specs.Table.{after, lawful}
 use Rattle.vm_table.specs.Turns.{first_lawful}
 use Rattle.vm_board.specs.Board.{IsBoard}
-use Rattle.vm_board.specs.Calls.{Adds, IsSame, MayAdd, moves_image}
+use Rattle.vm_board.specs.Calls.{Adds, MayAdd, moves_image}
 use Rattle.vm_board.specs.Homes.{IsAtHome, held_sector}
 use Rattle.vm_board.specs.View.{BoardView}
 use Rattle.vm_blkwork.specs.declared.outside.Out.{Out}
@@ -52,9 +52,6 @@ not_moving m p e w n = refl
 module _ {I : Type 0} (seen : I → ImageView) where
   at_board : (old new : BoardView I) (x : Signed) (w : Worker I) → Adds old new x → WorkerFits seen old.start (old.journal ++ x ∷ []) w → WorkerFits seen new.start new.journal w
   at_board old new x w a f = subst (λ (s : Start). WorkerFits seen s new.journal w) (sym a.start) (subst (λ (j : List Signed). WorkerFits seen old.start j w) (sym a.journal) f)
-
-  pub at_same : (old new : BoardView I) (w : Worker I) → IsSame old new → WorkerFits seen old.start old.journal w → WorkerFits seen new.start new.journal w
-  at_same old new w a f = subst (λ (s : Start). WorkerFits seen s new.journal w) (sym a.start) (subst (λ (j : List Signed). WorkerFits seen old.start j w) (sym a.journal) f)
 
   pub disk_there : (b : BoardView I) (w : Worker I) → IsBoard seen b → WorkerFits seen b.start b.journal w → w.disk < drive_count b.state.machine
   disk_there b w h f = subst (λ (s : State). w.disk < drive_count s.machine) (sym h.last) (drive_of seen b.start b.journal w f)

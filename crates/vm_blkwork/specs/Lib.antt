@@ -1,3 +1,4 @@
 pub mod Fits
+pub mod Going
 pub mod Outside
 pub mod Turn

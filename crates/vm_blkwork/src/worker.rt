@@ -162,25 +162,25 @@ impl<I: Image + Drop> Worker<I> {
     /// Takes a turn.
     ///
     /// It brings the image back where the call on it was made, and adds the first entry of its list that is lawful: Finish,
-    /// Move, Hold, Begin, Pull. `Left` comes exactly where the run is closed, or where it is ended and the worker owns nothing;
-    /// else `Nothing` exactly where there is no such entry. At `Starved` memory was wanted, and board and worker stay as they
-    /// were, but that the board notes it.
+    /// Move, Hold, Begin, Pull. `Left` comes exactly where the run is closed then, or where it is ended and the worker owns
+    /// nothing; else `Nothing` exactly where there is no such entry. At `Starved` memory was wanted, now or before, and board
+    /// and worker stay as they were, but that the board notes it.
     pub fn turn(&mut self, alloc: Global, board: &mut Board<I>) -> Did
         requires fits { WorkerFits I.seen board.old.start board.old.journal self.old }
-        ensures turn { TakesTurn board.old board.new (is_left board.old.state self.old.by self.old.disk) (turn_of board.old.state self.old) result }
+        ensures turn { TakesTurn board.old board.new (is_left board.new.state self.new.by self.new.disk) (turn_of board.old.state self.old) result }
         ensures starved { result ≡ Did.Starved → self.new ≡ self.old }
         ensures fits { WorkerFits I.seen board.new.start board.new.journal self.new }
         ensures numbers { (self.new.disk ≡ self.old.disk) × (self.new.by ≡ self.old.by) }
         ensures waits { result ≢ Did.Starved → IsWaiting self.new.out }
     {
-        if board.reserve(alloc, 2).is_err() {
+        if board.starved() || board.reserve(alloc, 2).is_err() {
             board.starve();
             return Did::Starved;
         }
-        board.is_sound();
-        let leaves = self.leaves(board.run());
         let back = self.bring_back(board);
         let chosen = self.choose(board);
+        board.is_sound();
+        let leaves = self.leaves(board.run());
         Did::of(leaves, back || chosen)
     }
 

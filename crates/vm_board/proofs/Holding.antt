@@ -1,7 +1,6 @@
 -- The request for which an image is out.
-use Rattle.std.proofs.Common.{◌≡◌, ◌==◌, ℕ, ◌+◌, ◌*◌, ◌<◌, ◌≤◌, true, false, length, sym, ap, subst, ◌∙◌, Option, Some, None}
+use Rattle.std.proofs.Common.{◌≡◌, ℕ, ◌+◌, ◌*◌, ◌<◌, ◌≤◌, true, false, length, sym, ap, ◌∙◌, Some}
 use Rattle.std.specs.Prelude.{slice_get}
-use Rattle.std.specs.List.{find}
 use Rattle.blk_queue.specs.declared.progress.Unfinished.{Unfinished}
 use Rattle.blk_queue.specs.Progress.{is_flush, moved_of, puts}
 use Rattle.blk_queue.specs.Queue.{request_of}

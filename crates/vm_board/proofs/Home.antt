@@ -1,15 +1,14 @@
 -- Images at home, in a history that is one entry longer.
-use Rattle.std.proofs.Common.{◌≡◌, ◌≢◌, ℕ, ◌+◌, ◌-◌, ◌^◌, ◌<◌, ◌≤◌, Bool, true, false, not, List, [], ◌∷◌, ◌++◌, zero, suc, map, length, get_or, refl, sym, ap, subst, ◌∙◌, inl, inr, Option, Some, None, arith}
-use Rattle.std.specs.Prelude.{◌||◌, ◌&&◌, ◌==◌, min, slice_index_or, slice_set, is_none}
+use Rattle.std.proofs.Common.{◌≡◌, ◌≢◌, ℕ, ◌+◌, ◌<◌, Bool, true, false, not, List, [], ◌∷◌, ◌++◌, zero, suc, map, length, get_or, refl, sym, ap, subst, ◌∙◌, inl, inr, Option, Some, None, arith}
+use Rattle.std.specs.Prelude.{◌||◌, ◌&&◌, ◌==◌, slice_index_or, slice_set, is_none}
 use Rattle.std.proofs.Math.ListN.{length-set}
 use Rattle.std.proofs.lemmas.List.{get_or-set_other, length-map}
-use Rattle.std.proofs.lemmas.Bool.{cases_eq, and_parts, true≢false, ne_eqb}
+use Rattle.std.proofs.lemmas.Bool.{cases_eq, and_parts, true≢false}
 use Rattle.std.proofs.lemmas.Bool.Decides.{nat_tests}
 use Rattle.std.proofs.lemmas.Grind.{get_or-set_at, common_steps}
 use Rattle.vm_law.specs.declared.journal.Entry.{Entry}
 use Rattle.vm_law.specs.declared.journal.Entry.TheVariants.{Hold, Put}
 use Rattle.vm_law.specs.declared.journal.Signed.{Signed}
-use Rattle.vm_host.specs.Told.{WhereTold}
 use Rattle.vm_host.specs.Views.{ImageView}
 use Rattle.vm_state.specs.declared.image.DiskImage.{DiskImage}
 use Rattle.vm_state.specs.declared.image.Holder.{Holder}
@@ -18,14 +17,14 @@ use Rattle.blk_queue.specs.Queue.{request_of}
 use Rattle.vm_state.specs.Machine.{drive_at, drive_count, is_drive}
 use Rattle.vm_state.specs.Sound.{IsSoundState}
 use Rattle.vm_state.specs.Start.{boot, boot_image, first_state}
-use Rattle.vm_state.specs.State.{State, image_at, no_image, with_image, with_machine}
+use Rattle.vm_state.specs.State.{State, image_at, no_image}
 use Rattle.vm_disks.specs.Images.{may_hold, after_hold, may_put, after_put, is_holder}
 use Rattle.vm_table.specs.History.{last_state}
 use Rattle.vm_table.specs.Table.{allowed, lawful, effect, counted, after}
 use Rattle.vm_board.specs.Calls.{moves_image}
 use Rattle.vm_board.specs.Homes.{ReadsAs, IsAtHome, IsHomeOrOut, IsFresh, AreFresh, AreHomes, has_failed, is_failed_put, flushes_from, is_flush_of, is_flushed_put}
 use Rattle.vm_board.proofs.Histories.{after_more, failed_more, flushes_more, one_where}
-use Rattle.vm_board.proofs.Images.{Stays, AllStay, OthersStay, after_images, hold_others, put_others}
+use Rattle.vm_board.proofs.Images.{Stays, OthersStay, after_images, hold_others, put_others}
 
 -- ---- one image
 

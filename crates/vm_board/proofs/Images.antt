@@ -1,13 +1,11 @@
 -- What entries leave of the images of a run: an entry that moves no image leaves each image's bytes, its sectors in doubt and its
 -- holder.
-use Rattle.std.proofs.Common.{◌≡◌, ◌≢◌, ℕ, ◌+◌, Bool, true, false, List, length, get_or, refl, sym, ap, subst, ◌∙◌, inl, inr, ◌⊎◌, Option, Some, None}
-use Rattle.std.specs.Prelude.{Result, Ok, Err, if◌then◌else◌}
+use Rattle.std.proofs.Common.{◌≡◌, ◌≢◌, ℕ, ◌+◌, Bool, true, false, List, length, get_or, refl, sym, subst, inl, inr, Option, Some, None}
+use Rattle.std.specs.Prelude.{if◌then◌else◌}
 use Rattle.std.proofs.Math.ListN.{length-set}
 use Rattle.std.proofs.lemmas.List.{get_or-set_other, set_past}
 use Rattle.std.proofs.lemmas.Bool.{cases_eq, cases_lt, true≢false}
 use Rattle.std.proofs.lemmas.Grind.{get_or-set_at}
-use Rattle.vm_law.specs.declared.context.Ctx.{Ctx}
-use Rattle.vm_law.specs.declared.context.Stop.{Stop}
 use Rattle.vm_law.specs.declared.insn.Insn.{Insn}
 use Rattle.vm_law.specs.declared.journal.Entry.{Entry}
 use Rattle.vm_law.specs.declared.journal.Entry.TheVariants.{Claim, Start, Enter, Slice, Step, Exit, Sleep, Wake, Yield, Turn, Meet, Pull, Begin, Move, Hold, Put, Finish, Feed, Wish, Done, End, Close, Tick}
@@ -18,7 +16,6 @@ use Rattle.vm_law.specs.declared.stage.MeetKind.{MeetKind}
 use Rattle.vm_law.specs.declared.stage.MeetKind.TheVariants.{Routing, Sample}
 use Rattle.vm_bus.specs.declared.area.Area.{Area}
 use Rattle.vm_bus.specs.declared.area.Area.TheVariants as area
-use Rattle.vm_lapic.specs.Apic.{ready}
 use Rattle.vm_vblk.specs.declared.pulled.WindowEffect.{WindowEffect}
 use Rattle.vm_vblk.specs.declared.pulled.WindowEffect.TheVariants as window_effect
 use Rattle.x86_exec.specs.declared.effect.Effect.{Effect}
@@ -26,25 +23,22 @@ use Rattle.x86_exec.specs.declared.effect.Effect.TheVariants as effect
 use Rattle.x86_exec.specs.Shared as exec
 use Rattle.x86_fetch.specs.declared.fetching.Next.{Next}
 use Rattle.x86_fetch.specs.declared.fetching.Next.TheVariants.{Local, Shared, Undefined, OutOfCode}
-use Rattle.x86_trap.specs.Delivery.{delivered, Delivered}
 use Rattle.vm_meet.specs.declared.meeting.Meeting.{Meeting}
-use Rattle.vm_state.specs.declared.cpu.Cpu.{Cpu}
 use Rattle.vm_state.specs.declared.drive.Drive.{Drive}
 use Rattle.vm_state.specs.declared.image.DiskImage.{DiskImage}
-use Rattle.vm_state.specs.Machine.{cpu_at, drive_at, is_drive, takes_nmi, takes_vector}
+use Rattle.vm_state.specs.Machine.{cpu_at, is_drive}
 use Rattle.vm_state.specs.State.{State, image_at, next_order, no_image, with_image, with_machine}
 use Rattle.vm_owners.specs.Owners.{after_claim, after_start, after_exit, after_sleep, after_wake, after_yield}
-use Rattle.vm_owners.specs.Turn.{turn_taken, turn_in, after_turn, with_routing}
+use Rattle.vm_owners.specs.Turn.{turn_taken, turn_in, after_turn}
 use Rattle.vm_devices.specs.Ports.{port_read, port_written}
-use Rattle.vm_devices.specs.Windows.{window_written, drive_written, register_followed, register_written}
-use Rattle.vm_running.specs.Enter.{stopped_at, entered, settled, delivered_in, taken, nmi_taken, vector_taken, interrupt_taken, after_enter}
-use Rattle.vm_running.specs.Slice.{spent, after_slice}
-use Rattle.vm_running.specs.Step.{next_at, stepped_to, stored_in, after_trap, trapped, performed_as, performed, after_step, printed, port_in, port_out, window_load, window_store}
+use Rattle.vm_devices.specs.Windows.{window_written, drive_written, register_followed}
+use Rattle.vm_running.specs.Step.{next_at, performed_as, performed, after_step, printed, port_in, port_out, window_load, window_store}
+use Rattle.vm_running.proofs.Images.{enter_images, slice_images, stepped_images, stopped_images, stored_images, trapped_images}
 use Rattle.vm_disks.specs.Queueing.{after_pull, after_begin}
 use Rattle.vm_disks.specs.Moving.{after_move, after_finish}
 use Rattle.vm_disks.specs.Images.{after_hold, after_put}
 use Rattle.vm_orders.specs.Duties.{after_feed, after_meet, after_tick, after_wish}
-use Rattle.vm_orders.specs.Done.{ordered, ordered_as, noted_as, said_as, after_done, request_cancelled, cancel_counted, noted}
+use Rattle.vm_orders.specs.Done.{ordered, ordered_as, noted_as, said_as, after_done, request_cancelled, noted}
 use Rattle.vm_orders.specs.Ending.{after_end, after_close}
 use Rattle.vm_table.specs.Table.{effect as effect_of, counted, after}
 use Rattle.vm_board.specs.Calls.{moves_image}
@@ -85,40 +79,6 @@ set_stays s d x one = record { count = length-set s.images d x; each = λ k. at_
 
 -- ---- a vCPU
 
-settled_images : (s : State) (i : ℕ) (d : Delivered) (r : Result (Unit {0}) Stop) → (settled s i d r).images ≡ s.images
-unfolding settled stopped_at
-settled_images s i d (Ok u) = refl
-settled_images s i d (Err why) = refl
-
-taken_images : (s : State) (i : ℕ) (c : Cpu) (v : ℕ) (nmi : Bool) → (delivered_in (taken s i c) i v nmi).images ≡ s.images
-taken_images s i c v nmi = let d = delivered (cpu_at (taken s i c).machine i).ctx (taken s i c).machine.ram v None nmi in settled_images (taken s i c) i d d.answer
-
-nmi_images : (s : State) (i : ℕ) → (nmi_taken s i).images ≡ s.images
-unfolding nmi_taken
-nmi_images s i = taken_images s i _ 2 true
-
-vector_images : (s : State) (i : ℕ) (o : Option ℕ) → (vector_taken s i o).images ≡ s.images
-unfolding vector_taken
-vector_images s i None = refl
-vector_images s i (Some v) = taken_images s i _ v false
-
-interrupt_if : (s : State) (i : ℕ) (a b : Bool) → (if a then nmi_taken s i else if b then vector_taken s i (ready (cpu_at s.machine i).lapic) else s).images ≡ s.images
-interrupt_if s i true b = nmi_images s i
-interrupt_if s i false true = vector_images s i _
-interrupt_if s i false false = refl
-
-interrupt_images : (s : State) (i : ℕ) → (interrupt_taken s i).images ≡ s.images
-unfolding interrupt_taken
-interrupt_images s i = interrupt_if s i (takes_nmi (cpu_at s.machine i)) (takes_vector (cpu_at s.machine i))
-
-entered_images : (s : State) (p i grant : ℕ) → (entered s p i grant).images ≡ s.images
-unfolding entered
-entered_images s p i grant = refl
-
-enter_images : (s : State) (p i grant : ℕ) → (after_enter s p i grant).images ≡ s.images
-unfolding after_enter
-enter_images s p i grant = interrupt_images (entered s p i grant) i ∙ entered_images s p i grant
-
 turn_taken_images : (s : State) (i : ℕ) (kind : MeetKind) → (turn_taken s i kind).images ≡ s.images
 unfolding turn_taken
 turn_taken_images s i Routing = refl
@@ -132,32 +92,7 @@ turn_images : (s : State) (i : ℕ) → (after_turn s i).images ≡ s.images
 unfolding after_turn
 turn_images s i = turn_in_images s i s.machine.meet
 
-slice_images : (s : State) (i n : ℕ) → (after_slice s i n).images ≡ s.images
-unfolding after_slice spent
-slice_images s i n = refl
-
 -- ---- an instruction
-
-stepped_images : (s : State) (j : ℕ) (c : Ctx) (halted : Bool) → (stepped_to s j c halted).images ≡ s.images
-unfolding stepped_to spent
-stepped_images s j c halted = refl
-
-stopped_images : (s : State) (j : ℕ) (why : Stop) → (stopped_at s j why).images ≡ s.images
-unfolding stopped_at
-stopped_images s j why = refl
-
-trap_images : (s : State) (j : ℕ) (d : Delivered) (r : Result (Unit {0}) Stop) → (after_trap s j d r).images ≡ s.images
-unfolding stepped_to spent
-trap_images s j d (Ok u) = refl
-trap_images s j d (Err why) = stopped_images s j why
-
-trapped_images : (s : State) (j rip v : ℕ) (error : Option ℕ) → (trapped s j rip v error).images ≡ s.images
-unfolding trapped
-trapped_images s j rip v error = let d = delivered (record (cpu_at s.machine j).ctx { rip = rip }) s.machine.ram v error false in trap_images s j d d.answer
-
-stored_images : (s : State) (j : ℕ) (x : exec.Shared) → (stepped_to (stored_in s x) j x.ctx false).images ≡ s.images
-unfolding stepped_to spent
-stored_images s j x = refl
 
 followed_images : (s : State) (d : ℕ) (x : Drive) (e : WindowEffect) → AllStay s.images (register_followed s d x e).images
 followed_images s d x window_effect.Nothing = same s.images _ refl

@@ -1,14 +1,12 @@
 -- What each call keeps of a board.
-use Rattle.std.proofs.Common.{◌≡◌, ◌≢◌, ℕ, ◌+◌, ◌<◌, Bool, true, false, List, [], ◌∷◌, ◌++◌, length, get_or, map, refl, sym, ap, subst, ◌∙◌, Option, Some, None, arith}
-use Rattle.std.specs.Prelude.{slice_index_or, slice_set, is_none}
-use Rattle.std.proofs.lemmas.Bool.{true≢false}
-use Rattle.vm_law.specs.declared.journal.Entry.{Entry}
+use Rattle.std.proofs.Common.{◌≡◌, ℕ, ◌<◌, Bool, true, false, List, [], ◌∷◌, ◌++◌, length, map, refl, sym, ap, subst, ◌∙◌, Some, None}
+use Rattle.std.specs.Prelude.{slice_set}
 use Rattle.vm_law.specs.declared.journal.Entry.TheVariants.{Hold, Put}
 use Rattle.vm_law.specs.declared.journal.Signed.{Signed}
 use Rattle.vm_host.specs.Views.{ImageView}
 use Rattle.vm_state.specs.State.{State}
 use Rattle.vm_state.specs.Start.{IsSound, boot}
-use Rattle.vm_table.specs.History.{after_all, last_state}
+use Rattle.vm_table.specs.History.{last_state}
 use Rattle.vm_table.specs.Table.{lawful, after}
 use Rattle.vm_table.specs.Turns.{IsOrderlyEntry}
 use Rattle.vm_board.specs.Board.{IsBoard}

@@ -4,3 +4,4 @@ pub mod Home
 pub mod Keeping
 pub mod Holding
 pub mod Reading
+pub mod Going

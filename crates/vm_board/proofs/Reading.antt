@@ -1,6 +1,6 @@
 -- Bytes of the code part.
-use Rattle.std.proofs.Common.{◌≡◌, ℕ, ◌+◌, ◌-◌, ◌≤◌, ◌<◌, List, length, take, drop, min, ap, sym, ◌∙◌, inl, inr, arith}
-use Rattle.std.proofs.lemmas.List.{drop-take, length-take, length-drop, take-take, take_all}
+use Rattle.std.proofs.Common.{◌≡◌, ℕ, ◌+◌, ◌-◌, ◌≤◌, ◌<◌, List, length, take, drop, min, ap, ◌∙◌, inl, inr, arith}
+use Rattle.std.proofs.lemmas.List.{drop-take, length-take, take-take, take_all}
 use Rattle.std.proofs.lemmas.Bool.{cases_lt}
 
 -- of the bytes from a place inside the code on, the first that are code, at most so many

@@ -1,5 +1,5 @@
 -- What holds of every board.
-use Rattle.std.specs.Prelude.{◌≡◌, List}
+use Rattle.std.specs.Prelude.{◌≡◌}
 use Rattle.vm_host.specs.Views.{ImageView}
 use Rattle.vm_state.specs.Start.{IsSound}
 use Rattle.vm_table.specs.History.{IsLegal, last_state}

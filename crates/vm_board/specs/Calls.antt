@@ -1,5 +1,5 @@
 -- What a call asks of a board and changes in it.
-use Rattle.std.specs.Prelude.{◌≡◌, ℕ, ◌+◌, ◌≤◌, Bool, true, false, List, [], ◌∷◌, ◌++◌}
+use Rattle.std.specs.Prelude.{◌≡◌, ◌+◌, ◌≤◌, Bool, true, false, [], ◌∷◌, ◌++◌}
 use Rattle.vm_law.specs.declared.journal.Entry.{Entry}
 use Rattle.vm_law.specs.declared.journal.Entry.TheVariants.{Hold, Put}
 use Rattle.vm_law.specs.declared.journal.Signed.{Signed}

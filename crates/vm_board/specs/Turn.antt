@@ -1,5 +1,5 @@
 -- What a turn of an actor does to a board, and what it answers.
-use Rattle.std.specs.Prelude.{◌≡◌, ℕ, Bool, true, false, not, List, [], ◌∷◌, ◌++◌}
+use Rattle.std.specs.Prelude.{◌≡◌, ℕ, Bool, true, false, List, [], ◌∷◌, ◌++◌}
 use Rattle.vm_law.specs.declared.journal.Signed.{Signed}
 use Rattle.vm_state.specs.State.{State}
 use Rattle.vm_table.specs.History.{after_all}

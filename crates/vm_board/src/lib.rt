@@ -12,5 +12,5 @@ mod actor;
 mod board;
 mod held;
 
-pub use actor::Did;
+pub use actor::{Did, Went};
 pub use board::Board;

@@ -21,7 +21,7 @@ use Rattle.x86_trap.specs.Delivery.{delivered, Delivered}
 use Rattle.vm_meet.specs.declared.meeting.Meeting.{Meeting}
 use Rattle.vm_state.specs.declared.cpu.Cpu.{Cpu}
 use Rattle.vm_state.specs.Machine.{cpu_at, is_drive, takes_nmi, takes_vector}
-use Rattle.vm_state.specs.State.{State, next_order, none_held, with_machine}
+use Rattle.vm_state.specs.State.{State, next_order, with_machine}
 use Rattle.vm_owners.specs.Owners.{after_claim, after_start, after_exit, after_sleep, after_wake, after_yield}
 use Rattle.vm_owners.specs.Turn.{turn_in, after_turn}
 use Rattle.vm_bus.specs.declared.area.Area.{Area}
@@ -42,7 +42,7 @@ use Rattle.vm_orders.specs.Done.{ordered, ordered_as, noted_as, said_as, after_d
 use Rattle.vm_orders.specs.Ending.{after_end, after_close}
 use Rattle.vm_table.specs.Table.{effect as effect_of, counted, after}
 use Rattle.vm_control.specs.Fits.{ControlFits}
-use Rattle.vm_control.specs.View.{ControlView}
+use Rattle.vm_control.specs.View.{ControlView, new_control}
 use Rattle.vm_control.proofs.Duties.{turn_taken_console}
 
 -- bytes may have come
@@ -231,3 +231,6 @@ pub any_fits : (s : State) (x : Signed) (c : ControlView) → ControlFits s c �
 any_fits s x c f =
     let g = after_grows s x in
     record { rest = f.rest ++ g.more; console = g.is ∙ ap (λ (l : List ℕ). l ++ g.more) f.console ∙ append_assoc (c.wrote ++ c.held) f.rest g.more }
+
+pub new_fits : (s : State) → ControlFits s new_control
+new_fits s = record { rest = s.console; console = refl }

@@ -1,4 +1,5 @@
 pub mod Fits
+pub mod Others
 pub mod Outside
 pub mod Turn
 pub mod View

@@ -1,10 +1,12 @@
 //! Control.
-ghost use Rattle.std.specs.Prelude.{◌≡◌, ◌≢◌, ◌≤◌, ◌++◌, true, false, [], IfOk, OnOk, OnErr, Ok};
+ghost use Rattle.std.specs.Prelude.{◌≡◌, ◌≢◌, ◌≤◌, ◌<◌, ◌++◌, true, false, [], length, IfOk, OnOk, OnErr, Ok};
 ghost use Rattle.vm_host.specs.Counts.{Counted};
+ghost use Rattle.vm_state.specs.State.{State};
 ghost use Rattle.vm_board.specs.Turn.{GoesOn, TakesTurn, some_entry};
 ghost use Rattle.vm_control.specs.Fits.{ControlFits};
 ghost use Rattle.vm_control.specs.Outside.{IsSink, WritesHeld};
 ghost use Rattle.vm_control.specs.Turn.{turn_of};
+ghost use Rattle.vm_control.specs.View.{new_control};
 
 use crate::failures;
 use crate::writing::write_out;
@@ -61,7 +63,7 @@ impl Model for Control {
 impl Control {
     /// Control of a run at its start: it wrote nothing and holds nothing, and nothing failed.
     pub fn new(alloc: Global, _start: &Start) -> Result<Control, OutOfMemory>
-        ensures { IfOk result (λ c. c ≡ record { wrote = []; held = []; failed = false }) }
+        ensures { IfOk result (λ c. c ≡ new_control) }
     {
         Ok(Control {
             events: failures::none_yet(),
@@ -89,6 +91,7 @@ impl Control {
         requires room { 1 ≤ board.old.room }
         ensures goes_on { GoesOn board.old board.new (turn_of board.old.state self.now.failed) }
         ensures some { result ≡ some_entry (turn_of board.old.state self.now.failed) }
+        ensures images { board.new.images ≡ board.old.images }
         ensures console { board.new.state.console ≡ board.old.state.console }
     {
         let end = Entry::End {
@@ -111,39 +114,46 @@ impl Control {
     ///
     /// Where the work outside failed and the run isn't ended, it ends it by that cause; else it adds the first entry of its
     /// list that is lawful: Turn, Yield, Claim, Feed, Tick, End, Wish, Meet, Done, Close. It takes over what the console has
-    /// received since. `Left` comes exactly where the run is closed; else `Nothing` exactly where there is no such entry. At
-    /// `Starved` memory was wanted, and the board stays as it was, but that it notes it.
+    /// received since. `Left` comes exactly where the run is closed then; else `Nothing` exactly where there is no such entry.
+    /// At `Starved` memory was wanted, now or before, and board and control stay as they were, but that the board notes it.
     pub fn turn<I: Image + Drop>(&mut self, alloc: Global, board: &mut Board<I>) -> Did
         requires fits { ControlFits board.old.state self.old }
-        ensures turn { TakesTurn board.old board.new board.old.state.closed (turn_of board.old.state self.old.failed) result }
+        ensures turn { TakesTurn board.old board.new board.new.state.closed (turn_of board.old.state self.old.failed) result }
+        ensures images { board.new.images ≡ board.old.images }
+        ensures starved { result ≡ Did.Starved → self.new ≡ self.old }
         ensures fits { ControlFits board.new.state self.new }
         ensures whole { result ≢ Did.Starved → self.new.wrote ++ self.new.held ≡ board.new.state.console }
         ensures wrote { self.new.wrote ≡ self.old.wrote }
         ensures failed { self.new.failed ≡ self.old.failed }
     {
-        if board.reserve(alloc, 1).is_err() || self.take_over(board.run()).is_err() {
+        if board.starved()
+            || board.reserve(alloc, 1).is_err()
+            || self.take_over(board.run()).is_err()
+        {
             board.starve();
             return Did::Starved;
         }
-        let closed = board.run().closed();
         let added = self.choose(board);
-        Did::of(closed, added)
+        Did::of(board.run().closed(), added)
     }
 
-    /// Writes the bytes that are held to the console, until it has taken all of them or fails. A failure is remembered. The
-    /// host isn't called.
+    /// Writes the bytes that are held to the console, until it has taken all of them or fails, at one of them. A failure is
+    /// remembered. The host isn't called.
     pub fn outside<H: Host, S: Sink>(
         &mut self,
         _alloc: Global,
         _host: &mut H,
         console: &mut S,
     ) -> Result<(), OutFault>
+        ensures host { _host.new ≡ _host.old }
         ensures writes { WritesHeld self.old self.new (S.seen console.old) (S.seen console.new) }
         ensures all { OnOk result (self.new.held ≡ []) }
+        ensures some { OnErr result (0 < length self.new.held) }
         ensures same { OnOk result (self.new.failed ≡ self.old.failed) }
         ensures failed { OnErr result (self.new.failed ≡ true) }
         ensures cause { Counted (S.seen console.old).faults (S.seen console.new).faults result }
         ensures only { IsSink result }
+        ensures fits { (s : State) → ControlFits s self.old → ControlFits s self.new }
     {
         let (count, result) = write_out(console, &self.console[self.written..]);
         self.written += count;

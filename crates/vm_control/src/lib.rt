@@ -7,6 +7,8 @@
 
 mod control;
 mod failures;
+mod law;
 mod writing;
 
 pub use control::{Control, OutFault};
+pub use law::{entries_keep_control, new_control_fits};

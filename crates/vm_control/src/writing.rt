@@ -1,5 +1,5 @@
 //! Writes bytes to a sink, as many as it takes.
-ghost use Rattle.std.specs.Prelude.{◌≡◌, ◌≤◌, length, take, OnOk};
+ghost use Rattle.std.specs.Prelude.{◌≡◌, ◌≤◌, ◌<◌, length, take, OnOk, OnErr};
 ghost use Rattle.vm_host.specs.Counts.{Counted};
 ghost use Rattle.vm_host.specs.Leaves.{Takes};
 
@@ -10,6 +10,7 @@ pub(crate) fn write_out<S: Sink>(sink: &mut S, bytes: &[u8]) -> (usize, Result<(
     ensures within { result.0 ≤ length bytes.now }
     ensures takes { Takes (take result.0 bytes.now) (S.seen sink.old) (S.seen sink.new) }
     ensures whole { OnOk result.1 (result.0 ≡ length bytes.now) }
+    ensures part { OnErr result.1 (result.0 < length bytes.now) }
     ensures cause { Counted (S.seen sink.old).faults (S.seen sink.new).faults result.1 }
 {
     let mut at = 0;

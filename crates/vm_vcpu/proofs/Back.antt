@@ -18,7 +18,7 @@ use Rattle.vm_board.specs.Calls.{MayAdd}
 use Rattle.vm_board.specs.Pages.{page_of}
 use Rattle.vm_vcpu.specs.Copies.{AreCopies, CopiesView, is_kept_in}
 use Rattle.vm_vcpu.specs.Fits.{HasOut}
-use Rattle.vm_vcpu.proofs.Looking.{each_at, local_same, stepped_same}
+use Rattle.vm_table.proofs.Looking.{each_at, local_same, stepped_same}
 
 -- ---- the most that are local
 

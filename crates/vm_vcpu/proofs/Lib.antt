@@ -4,7 +4,7 @@ pub mod Closed
 pub mod Copying
 pub mod Fetches
 pub mod Lists
-pub mod Looking
+pub mod Seating
 pub mod Standing
 pub mod Staying
 pub mod Turning

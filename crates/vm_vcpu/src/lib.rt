@@ -5,10 +5,12 @@
 //! it adds the first lawful entry of its list; then it renews its copies and takes its vCPU's context, where the vCPU runs on.
 //! Outside its turn it runs as many local instructions as its grant and its copies allow. A runner that fits the run, whose
 //! copies and whose context are the run's, fits it after its turn, after its work outside, and after entries of other passes.
+//! So it can take its turns at a turnstile (`vm_turn`), where others add entries between them.
 #![tactic(auto)]
 
 mod choosing;
 mod copies;
+mod going;
 mod law;
 mod out;
 mod runner;

@@ -87,8 +87,9 @@ impl Runner {
     /// Brings back what it ran ahead, adds the first lawful entry of its list, and takes its vCPU's context where the vCPU runs
     /// on.
     ///
-    /// `Left` exactly where the run is closed, or is ended while this pass owns nothing and no open meeting names the vCPU; else
-    /// `Nothing` exactly where there was nothing to bring back and no lawful entry. On `Starved` nothing was added.
+    /// `Left` exactly where the run is closed then, or is ended while this pass owns nothing and no open meeting names the vCPU;
+    /// else `Nothing` exactly where there was nothing to bring back and no lawful entry. On `Starved` memory was wanted, now or
+    /// before, and nothing was added.
     pub fn turn<I: Image + Drop>(&mut self, alloc: Global, board: &mut Board<I>) -> Did
         requires fits { RunnerFits board.old.state self.old }
         ensures fits { RunnerFits board.new.state self.new }
@@ -101,11 +102,11 @@ impl Runner {
             board.starve();
             return Did::Starved;
         }
-        self.go(board)
+        self.turn_with_room(board)
     }
 
     /// The same where there is room for two entries.
-    fn go<I: Image + Drop>(&mut self, board: &mut Board<I>) -> Did
+    fn turn_with_room<I: Image + Drop>(&mut self, board: &mut Board<I>) -> Did
         requires fits { RunnerFits board.old.state self.old }
         requires room { 2 ≤ board.old.room }
         ensures fits { RunnerFits board.new.state self.new }

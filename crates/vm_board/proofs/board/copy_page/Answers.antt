@@ -1,7 +1,7 @@
-use Rattle.std.proofs.Common.{◌∙◌, ◌≡◌, ◌*◌, ◌-◌, ◌≤◌, sym, ap, ℕ, List, length, length-drop, take, drop, arith}
+use Rattle.std.proofs.Common.{◌∙◌, ◌≡◌, ◌*◌, sym, ap, ℕ, List, length, length-drop, take, drop, arith}
 use Rattle.std.proofs.lemmas.List.{length-take-le, take_at}
 use borrow.Rule.Slice.PartMut.{post_of}
-use Rattle.vm_law.specs.Memory.{Memory, code_of}
+use Rattle.vm_law.specs.Memory.{code_of}
 use Rattle.vm_board.specs.Pages.{page_of}
 use Rattle.vm_board.proofs.Reading.{code_part}
 use Rattle.vm_board.proofs.board.copy_page.Goals as goal

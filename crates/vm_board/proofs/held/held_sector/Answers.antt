@@ -1,8 +1,8 @@
-use Rattle.std.proofs.Common.{◌≡◌, ◌==◌, ◌∙◌, ℕ, ◌+◌, ◌*◌, ◌≤◌, false, List, length, Option, Some, sym, ap, subst, arith, eq-eqb}
-use Rattle.std.specs.Prelude.{slice_get, if◌then◌else◌, None}
+use Rattle.std.proofs.Common.{◌≡◌, ◌==◌, ◌∙◌, ℕ, ◌+◌, ◌*◌, ◌≤◌, List, length, Some, sym, ap, subst, eq-eqb}
+use Rattle.std.specs.Prelude.{slice_get}
 use Rattle.std.proofs.lemmas.Bool.{ne_eqb}
 use Rattle.blk_queue.specs.declared.progress.Unfinished.{Unfinished}
-use Rattle.blk_queue.specs.Progress.{is_flush, moved_of}
+use Rattle.blk_queue.specs.Progress.{moved_of}
 use Rattle.blk_queue.specs.Queue.{request_of}
 use Rattle.vm_state.specs.declared.drive.Drive.{Drive}
 use Rattle.vm_state.specs.Machine.{drive_at}

@@ -1,5 +1,4 @@
 use Rattle.std.proofs.Common.{◌≡◌, refl, sym, ap, subst}
-use Rattle.vm_law.specs.declared.journal.Entry.TheVariants.{Slice}
 use Rattle.vm_law.specs.declared.journal.Signed.{Signed}
 use Rattle.vm_state.specs.State.{State}
 use Rattle.vm_board.specs.Calls.{MayAdd}

@@ -1,4 +1,4 @@
-use Rattle.std.proofs.Common.{◌≡◌, List, [], ◌∷◌, ◌++◌, refl, sym, ap, subst}
+use Rattle.std.proofs.Common.{◌≡◌, [], ◌∷◌, ◌++◌, refl, sym, ap, subst}
 use Rattle.vm_law.specs.declared.journal.Entry.TheVariants.{Put}
 use Rattle.vm_law.specs.declared.journal.Signed.{Signed}
 use Rattle.vm_state.specs.State.{State}

@@ -1,11 +1,4 @@
-use Rattle.std.proofs.Common.{◌≡◌, List, [], Option, refl, sym, ap, subst, ◌∙◌}
-use Rattle.vm_law.specs.declared.journal.Signed.{Signed}
-use Rattle.vm_host.specs.Views.{ImageView}
-use Rattle.vm_state.specs.declared.start.Start.{Start}
-use Rattle.vm_state.specs.Start.{IsSound, boot}
-use Rattle.vm_board.specs.Board.{IsBoard}
-use Rattle.vm_board.specs.Homes.{AreFresh, AreHomes}
-use Rattle.vm_board.specs.View.{BoardView}
+use Rattle.std.proofs.Common.{◌∙◌}
 use Rattle.vm_board.proofs.Keeping.{boot_board}
 use Rattle.vm_board.proofs.board.Board.make.Goals as goal
 

@@ -1,9 +1,8 @@
-use Rattle.std.proofs.Common.{◌≡◌, ◌<◌, ℕ, List, [], ◌∷◌, ◌++◌, length, get_or, Option, Some, None, IsSome, refl, sym, ap, subst, ◌∙◌}
+use Rattle.std.proofs.Common.{◌≡◌, ◌<◌, ℕ, List, [], ◌∷◌, ◌++◌, length, Option, Some, None, IsSome, refl, sym, ap, subst, ◌∙◌}
 use Rattle.std.specs.Prelude.{slice_index_or, slice_set}
 use Rattle.std.proofs.lemmas.List.{get_or_default}
 use Rattle.vm_law.specs.declared.journal.Entry.TheVariants.{Hold}
 use Rattle.vm_law.specs.declared.journal.Signed.{Signed}
-use Rattle.vm_host.specs.Views.{ImageView}
 use Rattle.vm_state.specs.State.{State}
 use Rattle.vm_state.specs.Machine.{drive_count}
 use Rattle.vm_state.specs.State.{image_at}
@@ -11,7 +10,7 @@ use Rattle.vm_disks.specs.Images.{is_holder}
 use Rattle.vm_board.specs.Calls.{MayAdd}
 use Rattle.vm_board.specs.Homes.{IsAtHome}
 use Rattle.vm_board.specs.View.{BoardView}
-use Rattle.vm_board.proofs.Home.{GoesOut, hold_drive, hold_holder, hold_within}
+use Rattle.vm_board.proofs.Home.{hold_drive, hold_holder, hold_within}
 use Rattle.vm_board.proofs.Keeping.{hold_there, longer_out, out}
 use Rattle.vm_board.proofs.board.Board.take_image.Goals as goal
 
