@@ -137,15 +137,9 @@ impl Control {
         Did::of(board.run().closed(), added)
     }
 
-    /// Writes the bytes that are held to the console, until it has taken all of them or fails, at one of them. A failure is
-    /// remembered. The host isn't called.
-    pub fn outside<H: Host, S: Sink>(
-        &mut self,
-        _alloc: Global,
-        _host: &mut H,
-        console: &mut S,
-    ) -> Result<(), OutFault>
-        ensures host { _host.new ≡ _host.old }
+    /// Writes the bytes that are held to a console, until it has taken all of them or fails, at one of them. A failure is
+    /// remembered.
+    pub fn write<S: Sink>(&mut self, console: &mut S) -> Result<(), OutFault>
         ensures writes { WritesHeld self.old self.new (S.seen console.old) (S.seen console.new) }
         ensures all { OnOk result (self.new.held ≡ []) }
         ensures some { OnErr result (0 < length self.new.held) }
@@ -164,5 +158,25 @@ impl Control {
                 Err(OutFault::Sink)
             }
         }
+    }
+
+    /// The work outside: it writes the bytes that are held to the console. The host isn't called.
+    pub fn outside<H: Host, S: Sink>(
+        &mut self,
+        _alloc: Global,
+        _host: &mut H,
+        console: &mut S,
+    ) -> Result<(), OutFault>
+        ensures host { _host.new ≡ _host.old }
+        ensures writes { WritesHeld self.old self.new (S.seen console.old) (S.seen console.new) }
+        ensures all { OnOk result (self.new.held ≡ []) }
+        ensures some { OnErr result (0 < length self.new.held) }
+        ensures same { OnOk result (self.new.failed ≡ self.old.failed) }
+        ensures failed { OnErr result (self.new.failed ≡ true) }
+        ensures cause { Counted (S.seen console.old).faults (S.seen console.new).faults result }
+        ensures only { IsSink result }
+        ensures fits { (s : State) → ControlFits s self.old → ControlFits s self.new }
+    {
+        self.write(console)
     }
 }

@@ -2,7 +2,7 @@ use Rattle.std.proofs.Common.{List, ℕ, ap, drop, subst, sym, take, ◌∙◌}
 use Rattle.std.proofs.lemmas.List.{take_rest}
 use Rattle.vm_host.specs.Leaves.{Takes}
 use Rattle.vm_control.proofs.Held.{writes_held, written_fits}
-use Rattle.vm_control.proofs.control.Control.outside.Goals as goal
+use Rattle.vm_control.proofs.control.Control.write.Goals as goal
 
 pub returns-in-Ok-clause-fits : goal.returns-in-Ok-clause-fits
 returns-in-Ok-clause-fits g c =

@@ -1,0 +1,13 @@
+mod Apart
+mod Back
+mod Causes
+mod Closes
+mod Exact
+mod Loads
+mod Named
+mod Opens
+mod Plans
+mod Read
+mod Scripts
+mod Sound
+mod Steps

@@ -1,0 +1,9 @@
+pub mod Answers
+pub mod Causes
+pub mod Files
+pub mod Images
+pub mod Kinds
+pub mod Later
+pub mod Opening
+pub mod Start
+pub mod Steps
