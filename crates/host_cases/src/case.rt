@@ -168,6 +168,7 @@ pub fn check<R: Threads + Wait + Sync, B: Bed>(
             "console" => ran.console(alloc)?,
             "log" => ran.log(alloc)?,
             "fail_console" => ran.fail_console(fields)?,
+            "fail_log" => ran.fail_log(fields)?,
             _ => bed.run(command, fields)?,
         };
         if !is_wanted(alloc, &gave, wanted)? {

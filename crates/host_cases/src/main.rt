@@ -14,8 +14,9 @@
 //! - `sector:NUMBER:BYTES`, `flush`: write a sector of the open image, and sync it. They give `-`.
 //! - `run:WORD|WORD|..`: the command line of these words, over the host. It gives the exit status.
 //! - `console`: gives what the guest of the last command line wrote.
-//! - `log`: gives what the last command line wrote to its log: the line of a refusal, and nothing where it did its work.
-//! - `fail_console:NUMBER`: the call of this number of the next command line's console is to fail. It gives `-`.
+//! - `log`: gives what the last command line wrote to its log: a report, the line of a refusal, or nothing.
+//! - `fail_console:NUMBER`, `fail_log:NUMBER`: the call of this number of the next command line's console, and of its log, is
+//!   to fail. They give `-`.
 //!
 //! Over memory alone:
 //!

@@ -15,7 +15,18 @@ pub struct Ran {
     console: MemSink,
     log: MemSink,
     /// Which call of the next one's console is to fail, if one is.
-    fault: Option<u64>,
+    console_fault: Option<u64>,
+    /// Which call of the next one's log is to fail, if one is.
+    log_fault: Option<u64>,
+}
+
+/// A sink that took nothing, of which the call of this number is to fail, if one is.
+fn sink_that_fails(alloc: Global, fault: Option<u64>) -> Result<MemSink, CaseError> {
+    let mut sink = MemSink::new(alloc);
+    if let Some(call) = fault {
+        sink.fail(call)?;
+    }
+    Ok(sink)
 }
 
 impl Ran {
@@ -25,23 +36,21 @@ impl Ran {
             status: 0,
             console: MemSink::new(alloc),
             log: MemSink::new(alloc),
-            fault: None,
+            console_fault: None,
+            log_fault: None,
         }
     }
 
     /// The call of this number of the next command line's console is to fail.
     pub fn fail_console(&mut self, number: &str) -> Result<Gave, CaseError> {
-        self.fault = Some(number_of(number)?);
+        self.console_fault = Some(number_of(number)?);
         Ok(Gave::Answer(Answer::Done))
     }
 
-    /// A console that took nothing, for the next command line.
-    fn renew_console(&mut self, alloc: Global) -> Result<(), CaseError> {
-        self.console = MemSink::new(alloc);
-        if let Some(call) = self.fault.take() {
-            self.console.fail(call)?;
-        }
-        Ok(())
+    /// The call of this number of the next command line's log is to fail.
+    pub fn fail_log(&mut self, number: &str) -> Result<Gave, CaseError> {
+        self.log_fault = Some(number_of(number)?);
+        Ok(Gave::Answer(Answer::Done))
     }
 
     /// Runs a command line: WORD|WORD|..
@@ -56,8 +65,8 @@ impl Ran {
         for word in text.split('|') {
             words.push(word)?;
         }
-        self.renew_console(alloc)?;
-        self.log = MemSink::new(alloc);
+        self.console = sink_that_fails(alloc, self.console_fault.take())?;
+        self.log = sink_that_fails(alloc, self.log_fault.take())?;
         let outcome = vmrun(
             threads,
             alloc,
@@ -76,7 +85,7 @@ impl Ran {
         Ok(Gave::Bytes(self.console.taken().to_vec(alloc)?))
     }
 
-    /// What it wrote to its log: the line of a refusal.
+    /// What it wrote to its log: a report, or the line of a refusal.
     pub fn log(&self, alloc: Global) -> Result<Gave, CaseError> {
         Ok(Gave::Bytes(self.log.taken().to_vec(alloc)?))
     }

@@ -1,7 +1,8 @@
 -- The report of a run, line by line.
-use Rattle.std.specs.Prelude.{ℕ, ◌+◌, Bool, List, [], ◌∷◌, ◌++◌, Option, Some, None, codes, decimal}
+use Rattle.std.specs.Prelude.{ℕ, ◌+◌, Bool, List, [], ◌∷◌, ◌++◌, length, Option, Some, None, codes, decimal, if◌then◌else◌}
 use Rattle.std.specs.List.{list_all, flat_map}
-use Rattle.ctl_script.specs.Print.{hex16, order_text, has_registers}
+use Rattle.vm_law.specs.declared.plan.Plan.{Plan}
+use Rattle.ctl_script.specs.Print.{order_text, has_registers}
 use Rattle.vm_law.specs.declared.context.Stop.{Stop}
 use Rattle.vm_law.specs.declared.context.Stop.TheVariants as stops
 use Rattle.vm_law.specs.declared.script.Order.{Order}
@@ -12,13 +13,11 @@ use Rattle.vm_state.specs.declared.run_state.Said.TheVariants.{Met, Quiet, Value
 use Rattle.vm_state.specs.declared.run_state.Sample.{Sample}
 use Rattle.vm_state.specs.declared.run_state.Why.{Why}
 use Rattle.vm_state.specs.declared.run_state.Why.TheVariants.{Finished, Stopped, Budget, Outside}
-use Rattle.vm_report.specs.declared.facts.CpuFacts.{CpuFacts}
-use Rattle.vm_report.specs.declared.facts.DiskFacts.{DiskFacts}
-use Rattle.vm_report.specs.declared.facts.Facts.{Facts}
-
--- `0x` and 16 hexadecimal digits
-abbrev pub address_text : ℕ → List ℕ
-address_text n = codes "0x" ++ hex16 n
+use Rattle.vm_state.specs.Machine.{MachineState, cpu_at, cpu_numbers, drive_numbers}
+use Rattle.vm_state.specs.State.{State, seat_at}
+use Rattle.vm_table.specs.Tally.{tally_of}
+use Rattle.vm_table.specs.declared.tally.Tally.{Tally}
+use Rattle.vm_report.specs.StateText.{address_text, state_text}
 
 -- ---- why the run ended
 
@@ -72,20 +71,22 @@ answers_text k (a ∷ rest) = answer_text k a ++ answers_text (k + 1) rest
 
 -- ---- vCPUs and disks, numbered from 0, and variables that aren't built
 
-abbrev pub cpu_text : ℕ → CpuFacts → List ℕ
-cpu_text i c = codes "cpu " ++ decimal i ++ codes " ran " ++ decimal c.ran ++ codes " rip " ++ address_text c.rip ++ codes "\n"
+-- how many instructions it ran, and where it stands
+abbrev pub cpu_text : State → ℕ → List ℕ
+cpu_text s i = codes "cpu " ++ decimal i ++ codes " ran " ++ decimal (seat_at s i).ran ++ codes " rip " ++ address_text (cpu_at s.machine i).ctx.rip ++ codes "\n"
 
-abbrev pub cpus_text : ℕ → List CpuFacts → List ℕ
-cpus_text i [] = []
-cpus_text i (c ∷ rest) = cpu_text i c ++ cpus_text (i + 1) rest
+abbrev pub cpus_text : State → List ℕ
+cpus_text s = flat_map (cpu_text s) (cpu_numbers s.machine)
 
-abbrev pub disk_text : ℕ → DiskFacts → List ℕ
-disk_text d t = codes "disk " ++ decimal d ++ codes " finished " ++ decimal t.finished ++ codes " cancelled " ++ decimal t.cancelled
+abbrev pub tally_text : ℕ → Tally → List ℕ
+tally_text d t = codes "disk " ++ decimal d ++ codes " finished " ++ decimal t.finished ++ codes " cancelled " ++ decimal t.cancelled
     ++ codes " queued " ++ decimal t.queued ++ codes " doubt " ++ decimal t.doubt ++ codes "\n"
 
-abbrev pub disks_text : ℕ → List DiskFacts → List ℕ
-disks_text d [] = []
-disks_text d (t ∷ rest) = disk_text d t ++ disks_text (d + 1) rest
+abbrev pub disk_text : State → ℕ → List ℕ
+disk_text s d = tally_text d (tally_of s d)
+
+abbrev pub disks_text : State → List ℕ
+disks_text s = flat_map (disk_text s) (drive_numbers s.machine)
 
 abbrev pub unbuilt_text : List (List ℕ) → List ℕ
 unbuilt_text names = flat_map (λ n. codes "not built: " ++ n ++ codes "\n") names
@@ -95,10 +96,18 @@ unbuilt_text names = flat_map (λ n. codes "not built: " ++ n ++ codes "\n") nam
 abbrev pub counts_text : ℕ → ℕ → List ℕ
 counts_text executed console = codes "executed " ++ decimal executed ++ codes "\nconsole " ++ decimal console ++ codes "\n"
 
--- a line feed (10) and the lines
-abbrev pub report_text : Facts → List ℕ
-report_text f =
-    10 ∷ (ended_text f.ended ++ (counts_text f.executed f.console ++ (answers_text 1 f.answers.now ++ (cpus_text 0 f.cpus.now ++ (disks_text 0 f.disks.now ++ unbuilt_text f.notbuilt.now)))))
+-- a line feed (10) and the lines on the run
+abbrev pub run_text : State → List ℕ
+run_text s =
+    10 ∷ (ended_text s.ended ++ (counts_text s.executed (length s.console) ++ (answers_text 1 s.answers ++ (cpus_text s ++ disks_text s))))
+
+-- the state of each vCPU, where it is asked for
+abbrev pub state_part : Bool → MachineState → List ℕ
+state_part state m = if state then state_text m else []
+
+-- the run, and the variables of its plan that aren't built
+abbrev pub report_text : State → Plan → Bool → List ℕ
+report_text s plan state = run_text s ++ unbuilt_text plan.notbuilt ++ state_part state s.machine
 
 -- the registers that the orders name are registers
 abbrev pub has_orders : List Answer → Bool

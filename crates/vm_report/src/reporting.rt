@@ -2,13 +2,15 @@
 ghost use Rattle.std.specs.Prelude.{◌≡◌, ◌+◌, ◌^◌, ◌<◌, ◌++◌, ◌∷◌, [], true, length, IfOk, OnOk, Some, codes};
 ghost use Rattle.std.specs.String.{string_bytes};
 ghost use Rattle.ctl_script.specs.Print.{has_registers};
-ghost use Rattle.vm_report.specs.Report.{address_text, stop_text, ended_text, sample_text, more_samples, samples_text, plain_text, said_text, answer_text, answers_text, cpu_text, cpus_text, disk_text, disks_text, unbuilt_text, counts_text, report_text, has_orders};
+ghost use Rattle.vm_state.specs.Machine.{cpu_count, drive_count};
+ghost use Rattle.vm_report.specs.Report.{stop_text, ended_text, sample_text, more_samples, samples_text, plain_text, said_text, answer_text, answers_text, cpu_text, cpus_text, disk_text, disks_text, tally_text, unbuilt_text, counts_text, run_text, report_text, state_part, has_orders};
 
-use crate::facts::{CpuFacts, DiskFacts, Facts};
+use crate::state::state_json;
 use ctl_script::{Hex16, put_order};
 use std::alloc::Global;
-use vm_law::{Order, OutOfMemory, Stop, Text};
+use vm_law::{Order, OutOfMemory, Plan, Stop, Text};
 use vm_state::{Answer, Said, Sample, Why};
+use vm_table::{Run, Tally};
 
 fn put_stop(out: &mut String, stop: Stop) -> Result<(), OutOfMemory>
     ensures { OnOk result (string_bytes out.new ≡ string_bytes out.old ++ stop_text stop) }
@@ -149,48 +151,54 @@ fn put_answers(out: &mut String, answers: &[Answer]) -> Result<(), OutOfMemory>
     Ok(())
 }
 
-fn put_cpu(out: &mut String, number: u64, cpu: CpuFacts) -> Result<(), OutOfMemory>
-    ensures { OnOk result (string_bytes out.new ≡ string_bytes out.old ++ cpu_text number cpu) }
+fn put_cpu(out: &mut String, run: &Run, cpu: u8) -> Result<(), OutOfMemory>
+    requires { cpu < cpu_count run.now.state.machine }
+    ensures { OnOk result (string_bytes out.new ≡ string_bytes out.old ++ cpu_text run.now.state cpu) }
 {
-    let ran = cpu.ran;
-    let rip = Hex16(cpu.rip);
-    write!(out, "cpu {number} ran {ran} rip 0x{rip}\n")?;
+    let ran = run.ran(cpu);
+    let rip = Hex16(run.cpu(cpu).ctx.rip);
+    write!(out, "cpu {cpu} ran {ran} rip 0x{rip}\n")?;
     Ok(())
 }
 
-fn put_cpus(out: &mut String, cpus: &[CpuFacts]) -> Result<(), OutOfMemory>
-    ensures { OnOk result (string_bytes out.new ≡ string_bytes out.old ++ cpus_text 0 cpus.now) }
+#[tactic(auto, using(crate::proofs::Ranges::flat_more))]
+fn put_cpus(out: &mut String, run: &Run) -> Result<(), OutOfMemory>
+    ensures { OnOk result (string_bytes out.new ≡ string_bytes out.old ++ cpus_text run.now.state) }
 {
-    let mut number = 0u64;
-    for cpu in cpus {
-        put_cpu(out, number, *cpu)?;
-        number += 1;
+    for cpu in 0..run.cpu_count() {
+        put_cpu(out, run, cpu)?;
     }
     Ok(())
 }
 
-fn put_disk(out: &mut String, number: u64, disk: DiskFacts) -> Result<(), OutOfMemory>
-    ensures { OnOk result (string_bytes out.new ≡ string_bytes out.old ++ disk_text number disk) }
+fn put_tally(out: &mut String, disk: u8, tally: Tally) -> Result<(), OutOfMemory>
+    ensures { OnOk result (string_bytes out.new ≡ string_bytes out.old ++ tally_text disk tally) }
 {
-    let finished = disk.finished;
-    let cancelled = disk.cancelled;
-    let queued = disk.queued;
-    let doubt = disk.doubt;
+    let finished = tally.finished;
+    let cancelled = tally.cancelled;
+    let queued = tally.queued;
+    let doubt = tally.doubt;
     write!(
         out,
-        "disk {number} finished {finished} cancelled {cancelled} "
+        "disk {disk} finished {finished} cancelled {cancelled} "
     )?;
     write!(out, "queued {queued} doubt {doubt}\n")?;
     Ok(())
 }
 
-fn put_disks(out: &mut String, disks: &[DiskFacts]) -> Result<(), OutOfMemory>
-    ensures { OnOk result (string_bytes out.new ≡ string_bytes out.old ++ disks_text 0 disks.now) }
+fn put_disk(out: &mut String, run: &Run, disk: u8) -> Result<(), OutOfMemory>
+    requires { disk < drive_count run.now.state.machine }
+    ensures { OnOk result (string_bytes out.new ≡ string_bytes out.old ++ disk_text run.now.state disk) }
 {
-    let mut number = 0u64;
-    for disk in disks {
-        put_disk(out, number, *disk)?;
-        number += 1;
+    put_tally(out, disk, run.tally(disk))
+}
+
+#[tactic(auto, using(crate::proofs::Ranges::flat_more))]
+fn put_disks(out: &mut String, run: &Run) -> Result<(), OutOfMemory>
+    ensures { OnOk result (string_bytes out.new ≡ string_bytes out.old ++ disks_text run.now.state) }
+{
+    for disk in 0..run.drive_count() {
+        put_disk(out, run, disk)?;
     }
     Ok(())
 }
@@ -206,21 +214,42 @@ fn put_unbuilt(out: &mut String, names: &[Text]) -> Result<(), OutOfMemory>
     Ok(())
 }
 
+fn put_run(out: &mut String, run: &Run) -> Result<(), OutOfMemory>
+    requires { has_orders run.now.state.answers ≡ true }
+    ensures { OnOk result (string_bytes out.new ≡ string_bytes out.old ++ run_text run.now.state) }
+{
+    out.push_str("\n")?;
+    put_ended(out, run.ended())?;
+    put_counts(out, run.executed(), run.console().len() as u64)?;
+    put_answers(out, run.answers())?;
+    put_cpus(out, run)?;
+    put_disks(out, run)?;
+    Ok(())
+}
+
+/// The state of each vCPU, where it is asked for.
+fn put_state(alloc: Global, out: &mut String, run: &Run, state: bool) -> Result<(), OutOfMemory>
+    ensures { OnOk result (string_bytes out.new ≡ string_bytes out.old ++ state_part state run.now.state.machine) }
+{
+    if state {
+        let line = state_json(alloc, run)?;
+        out.push_str(line.as_str())?;
+    }
+    Ok(())
+}
+
 /// The report of a run: a line feed; why it ended, or that it is open; the counts of instructions and of console bytes; each
-/// order that is done with what was said to it; each vCPU; each disk; each variable that isn't built.
+/// order that is done with what was said to it; each vCPU; each disk; each variable of its plan that isn't built; and, where
+/// `state` asks for it, the state of each vCPU as one line of JSON.
 ///
 /// The registers that the orders name are below 18.
-pub fn report(alloc: Global, facts: &Facts) -> Result<String, OutOfMemory>
-    requires { has_orders facts.now.answers.now ≡ true }
-    ensures { IfOk result (λ text. string_bytes text ≡ report_text facts.now) }
+pub fn report(alloc: Global, run: &Run, plan: &Plan, state: bool) -> Result<String, OutOfMemory>
+    requires { has_orders run.now.state.answers ≡ true }
+    ensures { IfOk result (λ text. string_bytes text ≡ report_text run.now.state plan.now state) }
 {
     let mut text = String::new(alloc);
-    text.push_str("\n")?;
-    put_ended(&mut text, facts.ended)?;
-    put_counts(&mut text, facts.executed, facts.console)?;
-    put_answers(&mut text, facts.answers)?;
-    put_cpus(&mut text, facts.cpus)?;
-    put_disks(&mut text, facts.disks)?;
-    put_unbuilt(&mut text, facts.notbuilt)?;
+    put_run(&mut text, run)?;
+    put_unbuilt(&mut text, plan.notbuilt.as_slice())?;
+    put_state(alloc, &mut text, run, state)?;
     Ok(text)
 }

@@ -1,36 +1,8 @@
-//! One happy path of each call: a whole report and a whole plan, byte for byte, worked out by hand.
+//! A whole plan, byte for byte, worked out by hand.
 
-use crate::{CpuFacts, Facts, plan_json, report};
-use arrayvec::ArrayVec;
+use crate::plan_json;
 use std::test::Fail;
-use vm_law::{DiskPlan, Order, Plan, Seq, Text};
-use vm_state::{Answer, Said, Why};
-
-#[test]
-fn a_run_that_finished(rt: HostRuntime) -> Result<(), Fail> {
-    let alloc = rt.alloc();
-    let answers = [Answer {
-        order: Order::WaitQuiet,
-        said: Said::Met,
-        samples: ArrayVec::new(),
-    }];
-    let cpus = [CpuFacts { ran: 4, rip: 9 }];
-    let facts = Facts {
-        ended: Some(Why::Finished),
-        executed: 4,
-        console: 1,
-        answers: &answers,
-        cpus: &cpus,
-        disks: &[],
-        notbuilt: &[],
-    };
-    let text = report(alloc, &facts)?;
-    assert!(rt;
-        text.as_str()
-            == "\nended finished\nexecuted 4\nconsole 1\n1 wait quiet: met\ncpu 0 ran 4 rip 0x0000000000000009\n"
-    );
-    Ok(())
-}
+use vm_law::{DiskPlan, Plan, Seq, Text};
 
 #[test]
 fn a_plan(rt: HostRuntime) -> Result<(), Fail> {

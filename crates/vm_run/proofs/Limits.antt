@@ -89,7 +89,10 @@ make_row words c e =
     let cpus = then_some (option_and_then (number_in 10 1 16) (value_of uses.0 (codes "cpus"))) _ c uses.2 in
     let number = then_some (option_and_then (number_in 10 0 4294967295) (value_of uses.0 (codes "number"))) _ c cpus.2 in
     let same : Make cpus.0 number.0 ≡ c = let is : Some (Make cpus.0 number.0) ≡ Some c = number.2 in cc in
-    subst (λ (x : Command). HasLimit x) same tt
+    let text = then_some (value_of uses.0 (codes "cpus")) (number_in 10 1 16) cpus.0 cpus.1 in
+    let digits = then_some (numeral 10 10 text.0) (within 1 16) cpus.0 text.2 in
+    let range = in_range 1 16 digits.0 cpus.0 digits.2 in
+    subst (λ (x : Command). HasLimit x) same (record { some_cpu = range.0; few = range.1 })
 
 inspect_row : (words : List Word) (c : Command) → row inspect_form inspect_of_uses words ≡ Some c → HasLimit c
 inspect_row words c e =

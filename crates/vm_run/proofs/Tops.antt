@@ -1,193 +1,195 @@
--- From what the parts of a command do to what the command does.
-use Rattle.std.proofs.Common.{◌≡◌, inl, inr, ℕ, true, List, Option, Some, None, IfSome, IfNone, IsNone, Contains, refl, sym, subst, ◌∙◌, arith}
-use Rattle.vm_cmd.specs.Word.{Word}
+-- From what the work of a command does, and what the log is told, to what the command does.
+use Rattle.std.proofs.Common.{◌≡◌, ◌≢◌, ◌⊎◌, inl, inr, ℕ, zero, suc, List, [], ◌∷◌, Option, Some, None, IfSome, IfNone, Contains, refl, sym, subst, ◌∙◌, ap, arith}
 use Rattle.vm_cmd.specs.declared.command.Command.{Command}
-use Rattle.vm_cmd.specs.declared.command.Command.TheVariants.{Run, Solo, Replay, Show, Asm, Make, Convert, Arrive, Inspect}
-use Rattle.vm_cmd.specs.declared.command.RunWords.{RunWords}
-use Rattle.vm_host.specs.Crash.{SinceEarlier}
-use Rattle.vm_host.specs.Leaves.{ReadsHost, TakesSome, WritesFile}
-use Rattle.vm_host.specs.Views.{HostView, SinkView}
-use Rattle.vm_host.proofs.Frames.{reads_itself, reads_writes}
-use Rattle.vm_machine.specs.History.{IsLegal}
-use Rattle.vm_machine.specs.Turns.{IsOrderly}
-use Rattle.vm_run.specs.declared.outcome.Ending.{Ending}
-use Rattle.vm_run.specs.declared.outcome.Ending.TheVariants as how
-use Rattle.vm_run.specs.declared.outcome.Kept.{Kept}
-use Rattle.vm_run.specs.Answer as answer
-use Rattle.vm_run.specs.Answer.{Outside, outside, sent_in, IsRunOf, IsOrderlyOf, ChangesOnly, Changes, Stands, SoloAnswers, ReplayAnswers, AsmAnswers, Answers, CanDo, MustRefuse, Does, done_statuses, refused_statuses}
-use Rattle.vm_run.specs.Ends.{ending_status, HasCauses}
-use Rattle.vm_run.specs.Files.{IsFileOf}
-use Rattle.vm_run.specs.Starting.{IsStart}
-use Rattle.vm_run.specs.Words.{unbuilt, unbuilt_option, IsLater, IsAgain}
-use Rattle.vm_run.proofs.Frames.{changes_itself, if_some, no_causes}
-use Rattle.vm_run.proofs.Assemblies.{asm_known, asm_completes, asm_refuses}
-use Rattle.vm_run.proofs.Completes.{solo_known, solo_completes, solo_refuses, replay_known, replay_completes, replay_refuses}
-use Rattle.vm_status.specs.declared.refusal.Refusal.TheVariants.{Memory}
+use Rattle.vm_cmd.specs.declared.command.Command.TheVariants.{Solo, Make}
+use Rattle.vm_host.specs.Counts.{Rose}
+use Rattle.vm_host.specs.Leaves.{LeavesSink, Takes}
+use Rattle.vm_host.specs.Views.{HostView, ImageView, SinkView}
+use Rattle.vm_laws.specs.Laws.{Laws}
+use Rattle.vm_laws.proofs.Laws.{laws_hold}
+use Rattle.vm_outcome.specs.declared.outcome.Ending.{Ending}
+use Rattle.vm_outcome.specs.declared.outcome.Ending.TheVariants as how
+use Rattle.vm_outcome.specs.declared.outcome.Kept.{Kept}
+use Rattle.vm_outcome.specs.Ends.{ending_status}
+use Rattle.vm_outcome.specs.Outside.{IsEnd, Outside, outside}
+use Rattle.vm_outcome.specs.Telling as telling
+use Rattle.vm_outcome.specs.Telling.{IsRefusal, IsRun, Tells, TellsRun, report_of}
+use Rattle.vm_outcome.proofs.Frames.{all_some, if_some}
+use Rattle.vm_run.specs.Answer.{Answers, Does, HasStatus, IsClosedBy, IsUnstartedBy, JournalOf, TakesReport, done_statuses, reported, statuses}
+use Rattle.vm_run.specs.Words.{asks_state}
+use Rattle.vm_run.specs.Works.{Works}
+use Rattle.vm_run.proofs.Facts.{Facts, facts_of, unkept, refused_no_end, untold_no_end, no_end_of}
+use Rattle.vm_run.proofs.Known.{ends_of, known_of, spent_done, spent_known, untold_known}
+use Rattle.vm_status.specs.declared.refusal.Refusal.TheVariants.{Bad, HostFault, Missing, Memory}
+use Rattle.vm_status.specs.declared.kind.Kind.TheVariants.{Later}
+use Rattle.vm_status.specs.declared.role.Role.TheVariants as roles
 
-starts : (host : HostView) (w : RunWords) (kept : Option Kept) → IfSome kept (λ k. IsRunOf host w k) → IfSome kept (λ k. IsFileOf host.tells (host.file w.file) (IsStart w.limit) k.start)
-starts host w kept = if_some (λ k. IsRunOf host w k) (λ k. IsFileOf host.tells (host.file w.file) (IsStart w.limit) k.start) kept (λ k h. h.start)
+not_refused_and_done : (n : ℕ) → Contains (3 ∷ 71 ∷ []) n → IsEnd n → ⊥
+not_refused_and_done n (zero, l, e) h = no_end_of (Bad roles.Start [] 0 Later) (subst IsEnd (sym e) h)
+not_refused_and_done n (suc zero, l, e) h = no_end_of Memory (subst IsEnd (sym e) h)
+not_refused_and_done n (suc (suc k), l, e) h = omega (arith, l)
 
-legals : (host : HostView) (w : RunWords) (kept : Option Kept) → IfSome kept (λ k. IsRunOf host w k) → IfSome kept (λ k. IsLegal k.start k.journal)
-legals host w kept = if_some (λ k. IsRunOf host w k) (λ k. IsLegal k.start k.journal) kept (λ k h. h.legal)
+module _ {A B L I : Type 0} (see : A → HostView) (watch : B → SinkView) (heed : L → SinkView) (image : I → ImageView) (command : Command)
+    (host host_now : A) (console console_now : B) (log log_now : L) (before : Ending) (kept : Option Kept)
+    (w : Works see watch image command host host_now console console_now before kept) where
+  abbrev o : Outside
+  o = outside (see host) (see host_now) (watch console) (watch console_now)
 
-always : (kept : Option Kept) → IfSome kept (λ k. Unit {0})
-always None = tt
-always (Some k) = tt
+  facts : (P : Kept → Type 0) → ((k : Kept) → Facts command o before k → P k) → IfSome kept P
+  facts P f = all_some P kept (λ k is. f k (facts_of o before command kept k is w.answers))
 
-reads_none : (kept : Option Kept) (old new : HostView) → ReadsHost old new → IfNone kept (ReadsHost old new)
-reads_none None old new h = h
-reads_none (Some k) old new h = tt
+  laws : IfSome kept (λ k. Laws k.start k.journal)
+  laws = if_some (λ k. IsRun k) (λ k. Laws k.start k.journal) kept (λ k r. laws_hold k.start k.journal r.sound r.legal) w.run
 
-module _ {A B : Type 0} (see : A → HostView) (watch : B → SinkView) (host host_now : A) (console console_now : B) (ending : Ending) (kept : Option Kept) where
-  abbrev views : Outside
-  views = outside (see host) (see host_now) (watch console) (watch console_now)
+  unstarted_by : (x : Option Kept) → kept ≡ x → IfNone x (IsUnstartedBy (see host) command before)
+  unstarted_by None none = unkept o before command (subst (λ (x : Option Kept). Answers command o before x) none w.answers)
+  unstarted_by (Some k) is = tt
 
-  module _ (causes : HasCauses (ending_status ending) (see host) (see host_now) (watch console) (watch console_now))
-      (console_part : IfSome kept (λ k. TakesSome (sent_in k) (watch console) (watch console_now))) (silent : IfNone kept (console_now ≡ console)) where
-    pub solo_does : (w : RunWords) → unbuilt_option w ≡ None → SoloAnswers views w ending kept → IfSome kept (λ k. IsRunOf (see host) w k)
-        → IfSome kept (λ k. IsOrderly k.start k.journal) → (IsAgain w.file w.journal → IsNone kept)
-        → ChangesOnly w.journal (see host) (see host_now) → IfNone kept (ReadsHost (see host) (see host_now))
-        → Does see watch (Solo w) host host_now console console_now ending kept
-    solo_does w built answers run orderly again files still = record {
-      status = solo_known views ending kept w answers;
-      answers = answer.ran_solo w refl built answers;
-      kept_run = run;
-      history = orderly;
-      twice = again;
-      console_part = console_part;
-      silent = silent;
-      files = files;
-      still = still;
-      causes = causes;
-      completeness = λ told can calm. solo_completes views ending kept told causes calm w can answers;
-      refusal = λ told must. solo_refuses views ending kept told w (starts (see host) w kept run) must answers;
+  none_now : (ending : Ending) (k : Kept) → kept ≡ Some k → IfNone kept (IsUnstartedBy (see host) command ending)
+  none_now ending k is = subst (λ (x : Option Kept). IfNone x (IsUnstartedBy (see host) command ending)) (sym is) tt
+
+  -- it ends as its work ended
+  module _ (told : Tells before (reported command kept) (asks_state command) before log log_now (heed log) (heed log_now))
+      (report : IsEnd (ending_status before) → IfSome kept (λ k. TakesReport command k (heed log) (heed log_now))) where
+    same_does : Does see watch heed image command host host_now console console_now log log_now before kept
+    same_does = record {
+      before = before;
+      answers = w.answers;
+      told = told;
+      started = w.started;
+      unstarted = unstarted_by kept refl;
+      run = w.run;
+      orderly = w.orderly;
+      closed = facts (λ k. IsClosedBy command (ending_status before) k) (λ k f. f.closed);
+      console_part = w.console_part;
+      console_all = λ end. facts _ (λ k f. f.all end);
+      untouched = w.untouched;
+      files = w.files;
+      disks = w.disks;
+      journal = λ end. facts (λ k. JournalOf command (see host) (see host_now) k) (λ k f. f.journal end);
+      known = known_of o before command kept w.answers;
+      status = λ end. facts (λ k. HasStatus command (ending_status before) k) (λ k f. f.status end);
+      report = report;
+      causes = (let c = w.causes in record {
+        failed = c.failed;
+        missing = c.missing;
+        doubted = w.doubted;
+        unwritten = λ e. inl (c.unwritten e);
+        only_failed = c.only_failed;
+        only_missing = c.only_missing;
+        only_unwritten = c.only_unwritten;
+      });
+      named = w.named;
+      complete = λ is_told can calm quiet. w.complete is_told can calm;
+      refusal = w.refusal;
+      sound_images = w.sound_images;
+      laws = laws;
     }
 
-    pub replay_does : (w : RunWords) (journal : Word) → unbuilt_option w ≡ None → ReplayAnswers views w journal ending kept → IfSome kept (λ k. IsRunOf (see host) w k)
-        → (w.file ≡ journal → IsNone kept) → ReadsHost (see host) (see host_now)
-        → Does see watch (Replay w journal) host host_now console console_now ending kept
-    replay_does w journal built answers run again files = record {
-      status = replay_known views ending kept w journal answers;
-      answers = answer.ran_replay w journal refl built answers;
-      kept_run = run;
-      history = always kept;
-      twice = again;
-      console_part = console_part;
-      silent = silent;
-      files = files;
-      still = reads_none kept (see host) (see host_now) files;
-      causes = causes;
-      completeness = λ told can calm. replay_completes views ending kept told causes calm w journal (starts (see host) w kept run) can answers;
-      refusal = λ told must. replay_refuses views ending kept told w (starts (see host) w kept run) (legals (see host) w kept run) journal must answers;
+  -- its work ended well, and then the log failed, or memory ran out
+  module _ (k : Kept) (is : kept ≡ Some k) (fine : IsRefusal before → ⊥) (ending : Ending) (told : Tells before (reported command kept) (asks_state command) ending log log_now (heed log) (heed log_now))
+      (n : ℕ) (status_is : ending_status ending ≡ n) where
+    ends : IsEnd (ending_status before)
+    ends = ends_of o before command kept w.answers fine
+
+    not_six : ending_status before ≡ 6 → ⊥
+    not_six e = no_end_of (HostFault []) (subst IsEnd e ends)
+
+    not_seven : ending_status before ≡ 7 → ⊥
+    not_seven e = no_end_of (Missing []) (subst IsEnd e ends)
+
+    not_nine : ending_status before ≡ 9 → ⊥
+    not_nine e = untold_no_end (subst IsEnd e ends)
+
+    not_spent : ending_status before ≡ 71 → ⊥
+    not_spent e = no_end_of Memory (subst IsEnd e ends)
+
+    closed_now : (c : Command) (m : ℕ) (j : Kept) → IsClosedBy c (ending_status before) j → IsClosedBy c m j
+    closed_now (Solo x) m j h = λ ne. elim (h not_spent) [ inl closed ↦ inl closed | inr six ↦ absurd (not_six six.0) ]
+    closed_now (Make cpus number) m j h = λ ne. h not_spent
+    closed_now c m j h = tt
+
+    worse_does : (IsEnd n → ⊥) → (n ≢ 6) → (n ≢ 7) → (n ≢ 8) → (n ≡ 9 → Rose (heed log).faults (heed log_now).faults) → Contains statuses n
+        → (Rose (heed log).faults (heed log_now).faults ⊎ (n ≡ 71)) → ((name : List ℕ) → ending ≡ how.Refused (HostFault name) → ⊥)
+        → Does see watch heed image command host host_now console console_now log log_now ending kept
+    worse_does no_end six seven eight nine there spent unnamed = record {
+      before = before;
+      answers = w.answers;
+      told = told;
+      started = w.started;
+      unstarted = none_now ending k is;
+      run = w.run;
+      orderly = w.orderly;
+      closed = facts (λ j. IsClosedBy command (ending_status ending) j) (λ j f. closed_now command (ending_status ending) j f.closed);
+      console_part = w.console_part;
+      console_all = λ end. absurd (no_end (subst IsEnd status_is end));
+      untouched = w.untouched;
+      files = w.files;
+      disks = λ end. absurd (no_end (subst IsEnd status_is end));
+      journal = λ end. absurd (no_end (subst IsEnd status_is end));
+      known = subst (λ (m : ℕ). Contains statuses m) (sym status_is) there;
+      status = λ end. absurd (no_end (subst IsEnd status_is end));
+      report = λ end. absurd (no_end (subst IsEnd status_is end));
+      causes = (let c = w.causes in record {
+        failed = λ e. absurd (six (sym status_is ∙ e));
+        missing = λ e. absurd (seven (sym status_is ∙ e));
+        doubted = λ e. absurd (eight (sym status_is ∙ e));
+        unwritten = λ e. inr (nine (sym status_is ∙ e));
+        only_failed = λ lt. absurd (elim (c.only_failed lt) [ inl x ↦ not_six x | inr x ↦ not_nine x ]);
+        only_missing = λ lt. absurd (not_seven (c.only_missing lt));
+        only_unwritten = λ lt. absurd (elim (c.only_unwritten lt) [ inl x ↦ not_nine x | inr x ↦ not_spent x ]);
+      });
+      named = λ name e. absurd (unnamed name e);
+      complete = λ is_told can calm quiet. elim spent [
+        | inl rose ↦ absurd (quiet rose)
+        | inr e ↦ subst (λ (m : ℕ). Contains (done_statuses command) m) (sym (status_is ∙ e)) (spent_done command)
+      ];
+      refusal = λ is_told must calm. absurd (not_refused_and_done (ending_status before) (w.refusal is_told must calm) ends);
+      sound_images = λ end. absurd (no_end (subst IsEnd status_is end));
+      laws = laws;
     }
 
-module _ {A B : Type 0} (see : A → HostView) (watch : B → SinkView) (host host_now : A) (console : B) where
-  pub asm_does : (file out : Word) (ending : Ending) (kept : Option Kept) → kept ≡ None → AsmAnswers (see host) (see host_now) file out ending
-      → HasCauses (ending_status ending) (see host) (see host_now) (watch console) (watch console) → WritesFile out (see host) (see host_now)
-      → Does see watch (Asm file out) host host_now console console ending kept
-  asm_does file out ending kept none answers causes files =
-      subst (λ (k : Option Kept). Does see watch (Asm file out) host host_now console console ending k) (sym none)
-      (record {
-        status = asm_known file out ending (see host) (see host_now) answers;
-        answers = answer.ran_asm file out refl refl answers;
-        kept_run = tt;
-        history = tt;
-        twice = λ t. refl;
-        console_part = tt;
-        silent = refl;
-        files = files;
-        still = files;
-        causes = causes;
-        completeness = λ told can calm. asm_completes file out ending (see host) (see host_now) told (watch console) (watch console) causes calm can.0 can.1 answers;
-        refusal = λ told must. asm_refuses file out ending (see host) (see host_now) told must answers;
-      })
+  -- ---- what the log is told
 
--- ---- what touches neither host nor console
+  -- a run that is reported is kept, and its report is what the log took
+  reported_kept : (c : Command) (k : Kept) → reported c kept ≡ Some k → kept ≡ Some k
+  reported_kept (Make cpus number) k is = absurd (let s : None ≡ Some k = is in cc)
+  reported_kept c k is = is
 
-itself : (c : Command) (a : HostView) → (a.tells ≡ true → SinceEarlier a.left) → Changes c a a
-itself (Solo w) a earlier = changes_itself w.journal a earlier
-itself (Replay w journal) a earlier = reads_itself a earlier
-itself (Run w) a earlier = reads_itself a earlier
-itself (Show config) a earlier = reads_itself a earlier
-itself (Asm file out) a earlier = reads_writes a a (λ q. q ≡ out) (reads_itself a earlier)
-itself (Make cpus number) a earlier = reads_itself a earlier
-itself (Convert file out) a earlier = reads_itself a earlier
-itself (Arrive file out) a earlier = reads_itself a earlier
-itself (Inspect w i) a earlier = reads_itself a earlier
+  taken_report : (c : Command) (k : Kept) → reported c kept ≡ Some k → Takes (report_of k (asks_state c)) (heed log) (heed log_now) → TakesReport c k (heed log) (heed log_now)
+  taken_report (Make cpus number) k is takes = absurd (let s : None ≡ Some k = is in cc)
+  taken_report c k is takes = takes
 
-stands : (c : Command) (a : HostView) → (a.tells ≡ true → SinceEarlier a.left) → Stands c a a
-stands (Solo w) a earlier = reads_itself a earlier
-stands (Replay w journal) a earlier = reads_itself a earlier
-stands (Run w) a earlier = reads_itself a earlier
-stands (Show config) a earlier = reads_itself a earlier
-stands (Asm file out) a earlier = reads_writes a a (λ q. q ≡ out) (reads_itself a earlier)
-stands (Make cpus number) a earlier = reads_itself a earlier
-stands (Convert file out) a earlier = reads_itself a earlier
-stands (Arrive file out) a earlier = reads_itself a earlier
-stands (Inspect w i) a earlier = reads_itself a earlier
+  -- where none is reported the log took nothing
+  no_report : (c : Command) (k : Kept) → kept ≡ Some k → reported c kept ≡ None → log_now ≡ log → TakesReport c k (heed log) (heed log_now)
+  no_report (Make cpus number) k is none still = subst (λ (l : L). LeavesSink (heed log) (heed l)) (sym still) (record { told = refl; taken = λ told. refl })
+  no_report c k is none still = absurd (let s : Some k ≡ None = sym is ∙ none in cc)
 
-module _ {A B : Type 0} (see : A → HostView) (watch : B → SinkView) (host : A) (console : B) (earlier : (see host).tells ≡ true → SinceEarlier (see host).left) where
-  spent_done : (c : Command) → Contains (done_statuses c) 71
-  spent_done (Solo w) = (3, omega arith, refl)
-  spent_done (Replay w journal) = (1, omega arith, refl)
-  spent_done (Run w) = (1, omega arith, refl)
-  spent_done (Show config) = (1, omega arith, refl)
-  spent_done (Asm file out) = (1, omega arith, refl)
-  spent_done (Make cpus number) = (1, omega arith, refl)
-  spent_done (Convert file out) = (1, omega arith, refl)
-  spent_done (Arrive file out) = (1, omega arith, refl)
-  spent_done (Inspect w i) = (1, omega arith, refl)
+  run_told : (ending : Ending) (k : Kept) → reported command kept ≡ Some k → (IsRefusal before → ⊥) → TellsRun before k (asks_state command) ending (heed log) (heed log_now)
+      → Does see watch heed image command host host_now console console_now log log_now ending kept
+  run_told ending k is fine (telling.told e takes same) =
+      subst (λ (x : Ending). Does see watch heed image command host host_now console console_now log log_now x kept) (sym e)
+      (same_does (telling.ran k is fine (telling.told refl takes same)) (λ end. all_some _ kept (λ j at. one j at)))
+    where
+      one : (j : Kept) → kept ≡ Some j → TakesReport command j (heed log) (heed log_now)
+      one j at =
+          let e : k ≡ j = (let s : Some k ≡ Some j = sym (reported_kept command k is) ∙ at in cc) in
+          subst (λ (x : Kept). TakesReport command x (heed log) (heed log_now)) e (taken_report command k is takes)
+  run_told ending k is fine (telling.untold e part rose later) =
+      worse_does k (reported_kept command k is) fine ending (telling.ran k is fine (telling.untold e part rose later)) 9 (ap ending_status e) untold_no_end
+      (λ x. omega (arith, x)) (λ x. omega (arith, x)) (λ x. omega (arith, x)) (λ x. rose) untold_known (inl rose)
+      (λ name f. let bad : how.Untold ≡ how.Refused (HostFault name) = sym e ∙ f in cc)
+  run_told ending k is fine (telling.spent e line) =
+      worse_does k (reported_kept command k is) fine ending (telling.ran k is fine (telling.spent e line)) 71 (ap ending_status e) (no_end_of Memory)
+      (λ x. omega (arith, x)) (λ x. omega (arith, x)) (λ x. omega (arith, x)) (λ x. absurd (omega (arith, x))) spent_known (inr refl)
+      (λ name f. let bad : how.Refused Memory ≡ how.Refused (HostFault name) = sym e ∙ f in cc)
 
-  -- what isn't built can't be done
-  not_built : (files : List ℕ → Option (List ℕ)) (c : Command) (word : Word) → unbuilt c ≡ Some word → CanDo files c → ⊥
-  not_built files (Solo w) word is can = let e : None ≡ Some word = sym can.0 ∙ is in cc
-  not_built files (Replay w journal) word is can = let e : None ≡ Some word = sym can.0 ∙ is in cc
-  not_built files (Run w) word is can = can
-  not_built files (Show config) word is can = can
-  not_built files (Asm file out) word is can = let e : None ≡ Some word = is in cc
-  not_built files (Make cpus number) word is can = can
-  not_built files (Convert file out) word is can = can
-  not_built files (Arrive file out) word is can = can
-  not_built files (Inspect w i) word is can = can
-
-  -- want of memory before anything was done
-  pub spent_does : (c : Command) (ending : Ending) (kept : Option Kept) → kept ≡ None → ending ≡ how.Refused Memory → Does see watch c host host console console ending kept
-  spent_does c ending kept none is =
-      subst (λ (k : Option Kept). Does see watch c host host console console ending k) (sym none)
-      (subst (λ (e : Ending). Does see watch c host host console console e None) (sym is)
-      (record {
-        status = (7, omega arith, refl);
-        answers = answer.spent refl;
-        kept_run = tt;
-        history = tt;
-        twice = λ t. refl;
-        console_part = tt;
-        silent = refl;
-        files = itself c (see host) earlier;
-        still = stands c (see host) earlier;
-        causes = no_causes 71 (see host) (watch console) (λ e. omega (arith, e)) (λ e. omega (arith, e)) (λ e. omega (arith, e));
-        completeness = λ told can calm. spent_done c;
-        refusal = λ told must. (2, omega arith, refl);
-      }))
-
-  -- what isn't built yet
-  pub later_does : (c : Command) (word : Word) (ending : Ending) (kept : Option Kept) → unbuilt c ≡ Some word → kept ≡ None → IsLater word ending
-      → Does see watch c host host console console ending kept
-  later_does c word ending kept un none (inr is) = spent_does c ending kept none is
-  later_does c word ending kept un none (inl is) =
-      subst (λ (k : Option Kept). Does see watch c host host console console ending k) (sym none)
-      (subst (λ (e : Ending). Does see watch c host host console console e None) (sym is)
-      (record {
-        status = (1, omega arith, refl);
-        answers = answer.unbuilt_yet word un refl refl;
-        kept_run = tt;
-        history = tt;
-        twice = λ t. refl;
-        console_part = tt;
-        silent = refl;
-        files = itself c (see host) earlier;
-        still = stands c (see host) earlier;
-        causes = no_causes 3 (see host) (watch console) (λ e. omega (arith, e)) (λ e. omega (arith, e)) (λ e. omega (arith, e));
-        completeness = λ told can calm. absurd (not_built (see host).file c word un can);
-        refusal = λ told must. (0, omega arith, refl);
-      }))
+  pub told_does : (ending : Ending) → Tells before (reported command kept) (asks_state command) ending log log_now (heed log) (heed log_now)
+      → Does see watch heed image command host host_now console console_now log log_now ending kept
+  told_does ending (telling.refused r is e line) =
+      subst (λ (x : Ending). Does see watch heed image command host host_now console console_now log log_now x kept) (sym e)
+      (same_does (telling.refused r is refl line) (λ end. absurd (refused_no_end before r is end)))
+  told_does ending (telling.ran k is fine h) = run_told ending k is fine h
+  told_does ending (telling.silent none fine e quiet) =
+      subst (λ (x : Ending). Does see watch heed image command host host_now console console_now log log_now x kept) (sym e)
+      (same_does (telling.silent none fine refl quiet) (λ end. all_some _ kept (λ k at. no_report command k at none quiet)))

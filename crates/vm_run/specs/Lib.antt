@@ -1,11 +1,5 @@
-pub mod Actors
 pub mod Answer
-pub mod Assembling
-pub mod Closing
-pub mod Cut
-pub mod Ends
-pub mod Files
 pub mod Refusing
-pub mod Single
-pub mod Starting
+pub mod Showing
 pub mod Words
+pub mod Works

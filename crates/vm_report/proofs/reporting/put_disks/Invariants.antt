@@ -1,9 +1,7 @@
-use Rattle.std.proofs.Common.{◌≡◌, ◌++◌, drop, string_bytes}
-use Rattle.vm_report.specs.Report.{disks_text}
+use Rattle.std.specs.List.{flat_map, range_with_len}
+use Rattle.std.proofs.Common.{◌≡◌, ◌++◌, string_bytes}
+use Rattle.vm_report.specs.Report.{disk_text}
 use Rattle.vm_report.proofs.reporting.put_disks.Given as goal
 
 abbrev pub invariant-loop-disk : goal.invariant-loop-disk
-invariant-loop-disk l = record {
-  told : string_bytes l.out ++ disks_text l.number (drop l.disk-index l.disks) ≡ string_bytes l.fn.out ++ disks_text 0 l.disks;
-  number : l.number ≡ l.disk-index;
-}
+invariant-loop-disk l = string_bytes l.out ≡ string_bytes l.fn.out ++ flat_map (disk_text l.run.state) (range_with_len 0 l.disk)

@@ -1,0 +1,2 @@
+pub mod Assemblies
+pub mod FileReads

@@ -1,7 +1,0 @@
-use Rattle.std.proofs.Common.{◌≡◌}
-use Rattle.std.specs.Prelude.{replicate}
-use Rattle.vm_machine.specs.State.{empty_seat}
-use Rattle.vm_machine.proofs.booting.boot_seats.Given as goal
-
-abbrev pub invariant-loop-k : goal.invariant-loop-k
-invariant-loop-k l = l.seats.items ≡ replicate l._k empty_seat

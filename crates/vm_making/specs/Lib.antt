@@ -1,0 +1,5 @@
+pub mod Answers
+pub mod Counts
+pub mod Line
+pub mod Start
+pub mod Telling

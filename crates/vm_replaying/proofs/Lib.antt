@@ -1,0 +1,4 @@
+pub mod FileReads
+pub mod Replays
+pub mod Starting
+pub mod Starts
