@@ -10,7 +10,7 @@
 //! - `workload N,N,..`: the image of the workload with these counts.
 //!
 //! In a text `\n`, `\r`, `\t` and `\\` are LF, CR, TAB and a backslash, `\xHH` is a byte, and `\*N{TEXT}` is TEXT N times,
-//! in which no `}` stands. A payload of more than 400 bytes is printed as its length. A line that begins with `#` is
+//! in which no `}` stands. A payload of more than 2,000 bytes is printed as its length. A line that begins with `#` is
 //! printed as it is.
 //!
 //! The file `stdout` was made by GNU as, or worked out by hand. This program promises no more than that it is safe and ends.

@@ -19,9 +19,9 @@ fn assembled(alloc: Global, bytes: &[u8]) -> Result<Result<FlatImage, String>, C
     }
 }
 
-/// Adds bytes in hexadecimal digits; of more than 400 their number.
+/// Adds bytes in hexadecimal digits; of more than 2,000 their number.
 fn put_bytes(out: &mut String, bytes: &[u8]) -> Result<(), AllocError> {
-    if bytes.len() > 400 {
+    if bytes.len() > 2_000 {
         let length = bytes.len();
         return write!(out, "<{length}>");
     }
