@@ -20,9 +20,9 @@ use vm_law::Text;
 /// The command that the words give, without the program's name.
 ///
 /// The first word is the command. Options stand anywhere after it, each at most once, as `--name value` or `--name=value`.
-/// Any other word that begins with `-` is refused, also as a value's own word. No word and no value is empty.
+/// Any other word that begins with `-` is refused, also where a value is to stand. No word and no value is empty.
 ///
-/// `Usage` comes exactly where the words are outside the table. `Memory` may be the answer to any words.
+/// `Usage` comes only where the words are outside the table, `Memory` at any words.
 pub fn read(alloc: Global, words: &[&str]) -> Result<Command, CmdError>
     ensures command { IfOk result (λ command. command_of (texts words.now) ≡ Some command) }
     ensures usage { result ≡ Err CmdError.Usage → command_of (texts words.now) ≡ None }

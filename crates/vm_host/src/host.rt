@@ -194,4 +194,7 @@ pub trait Host {
 
     /// A crash from a later moment on is one from an earlier moment on.
     ghost since_earlier: { (host : Self) → (seen host).tells ≡ true → SinceEarlier (seen host).left };
+
+    /// The images of a host that tells its files tell their bytes.
+    ghost images_tell: { (host : Self) (image : Self.Image) → (seen host).tells ≡ true → (Self.Image.seen image).tells ≡ true };
 }

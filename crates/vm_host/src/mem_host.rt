@@ -211,6 +211,8 @@ impl Host for MemHost {
 
     ghost since_earlier = { λ m _. since_earlier m.past };
 
+    ghost images_tell = { λ m image told. told };
+
     fn length(&mut self, name: &str) -> Result<u64, HostFault>
         ensures listed { FailsWhereListed name.now self.old self.new result }
         ensures unlisted { FailsOnlyListed self.old result }

@@ -95,6 +95,8 @@ impl Host for FileHost {
 
     ghost since_earlier = { λ h told q t u b le left. left };
 
+    ghost images_tell = { λ h image told. told };
+
     fn length(&mut self, name: &str) -> Result<u64, HostFault> {
         match files::size_of(&self.rt, name) {
             Ok(size) => Ok(size),

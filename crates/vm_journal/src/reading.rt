@@ -197,7 +197,7 @@ fn read_whole(alloc: Global, bytes: &[u8]) -> Result<Journal, Fault>
 
 /// The journal that the bytes spell, all of them; else the first fault that is met from left to right.
 ///
-/// A field that is cut is a fault at its first byte. `Memory` comes only where an allocation was refused.
+/// A field that is cut is a fault at its first byte. `Memory` may be the answer to any bytes.
 pub fn decode(alloc: Global, bytes: &[u8]) -> Result<Journal, JournalError>
     // What is read is spelled so, each byte of it.
     ensures found { IfOk result (λ journal. bytes.now ≡ spelling journal) }

@@ -3,7 +3,7 @@ use Rattle.std.proofs.Common.{◌≡◌, ◌≢◌, inl, inr, ℕ, ◌≤◌, Bo
 use Rattle.std.proofs.lemmas.Bool.{cases_Bool}
 use Rattle.vm_host.specs.Counts.{Rose}
 use Rattle.vm_host.specs.Leaves.{Takes, TakesSome}
-use Rattle.vm_host.specs.Views.{HostView, ImageView, SinkView}
+use Rattle.vm_host.specs.Views.{HostView, SinkView}
 use Rattle.vm_host.proofs.Frames.{takes_is_some, takes_on}
 use Rattle.vm_making.specs.Answers as answer
 use Rattle.vm_making.specs.Answers.{HasEnded, HasMakeCauses, MakeAnswers, RunAnswers}
@@ -91,9 +91,9 @@ module _ {S : Type 0} (cpus number : ℕ) (before ending : Ending) (mid new : Si
         let quiet = unsaid (λ z. omega (arith, sym (ap ending_status e) ∙ z)) in
         answer.spent (stays_some (sent_in k) quiet.1 some) (quiet.0 ∙ e)
 
-  module _ {I : Type 0} (seen : I → ImageView) (first : Start) (is_first : IsStartOf cpus number first) (host host_now : HostView) (old : SinkView) where
+  module _ (first : Start) (is_first : IsStartOf cpus number first) (host host_now : HostView) (old : SinkView) where
     abbrev Ran : Kept → Type 0
-    Ran k = RunsFrom soloing.by_rounds seen first None (outside host host_now old mid) before k
+    Ran k = RunsFrom soloing.by_rounds first None (outside host host_now old mid) before k
 
     -- where none is kept memory was out
     pub make_answers : (kept : Option Kept) → IfSome kept Ran → IfNone kept (before ≡ how.Refused Memory) → MakeAnswers cpus number old new ending kept

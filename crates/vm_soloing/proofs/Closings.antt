@@ -21,7 +21,7 @@ use Rattle.vm_solo.specs.Home.{AreAllHome, IsHome}
 use Rattle.vm_soloing.specs.Answers.{IsSaved}
 use Rattle.vm_soloing.specs.Closing as closing
 use Rattle.vm_soloing.specs.Closing.{ChangesOnly, Closes, FollowAll, HasJournalCauses, IsApart, IsUnsaved}
-use Rattle.vm_soloing.specs.Disks.{AllTell, IsOwn}
+use Rattle.vm_soloing.specs.Disks.{IsOwn}
 use Rattle.vm_start.specs.Images.{HasFailed, IsGivenBack, path_of}
 use Rattle.vm_state.specs.declared.start.Start.{Start}
 use Rattle.vm_state.specs.State.{State}
@@ -144,12 +144,12 @@ module _ {I : Type 0} (seen : I → ImageView) (start : Start) (history : List S
 
   pub back_follows : (journal : Option (List ℕ)) (old mid new : HostView) → AreAllHome seen start history images → IsApart journal start.plan → mid.tells ≡ old.tells → ChangesOnly journal mid new
       → WhereTold old.tells ((d : ℕ) (image : I) → slice_index_or images d None ≡ Some image → WhereTold (seen image).tells (mid.file (path_of start.plan d) ≡ Some (seen image).content))
-      → AllTell seen → WhereTold old.tells (FollowAll new.file start history)
+      → WhereTold old.tells ((image : I) → (seen image).tells ≡ true) → WhereTold old.tells (FollowAll new.file start history)
   back_follows journal old mid new home apart same saved content tell told d within =
       let f = found home d within in (
         (seen f.0).content,
-        other_file journal mid new (path_of start.plan d) (same ∙ told) saved (λ name is e. apart name is (d, within, e)) ∙ content told d f.0 f.1 (tell f.0),
-        f.2.reads (tell f.0),
+        other_file journal mid new (path_of start.plan d) (same ∙ told) saved (λ name is e. apart name is (d, within, e)) ∙ content told d f.0 f.1 (tell told f.0),
+        f.2.reads (tell told f.0),
       )
 
   pub back_failed : (journal : Option (List ℕ)) (old mid new : HostView) → AreAllHome seen start history images → ChangesOnly journal mid new

@@ -28,7 +28,7 @@ use Rattle.vm_table.specs.Turns.{IsOrderly}
 use Rattle.vm_table.specs.View.{View}
 use Rattle.vm_soloing.specs.Answers.{GoesBy, IsCutBy, Way}
 use Rattle.vm_soloing.specs.Closing.{Closes, FollowAll, HasJournalCauses}
-use Rattle.vm_soloing.specs.Disks.{AllTell, IsOwn}
+use Rattle.vm_soloing.specs.Disks.{IsOwn}
 use Rattle.vm_soloing.specs.Keeping.{IsRunFrom, RunsFrom}
 use Rattle.vm_soloing.proofs.Moving.{Quiet, runs_from, runs_moved}
 use Rattle.vm_soloing.proofs.Plans.{drives_count}
@@ -58,7 +58,7 @@ module _ {I : Type 0} (way : Way) (seen : I → ImageView) (first : Start) (jour
     pub closes : Closes o.host o.host_now journal history run.state end ending
     pub causes : HasJournalCauses (ending_status ending) o.host o.host_now
     pub host : LeavesHost (IsOwn start.plan journal) o.host o.host_now
-    pub disks : end ≢ Err fault.Memory → AllTell seen → WhereTold o.host.tells (FollowAll o.host_now.file start history)
+    pub disks : end ≢ Err fault.Memory → WhereTold o.host.tells (FollowAll o.host_now.file start history)
     pub failed : end ≢ Err fault.Memory → (d : ℕ) → d < length start.plan.disks → has_failed d history ≡ true → Rose o.host.image_faults o.host_now.image_faults
 
   -- what its rounds left
@@ -76,7 +76,7 @@ module _ {I : Type 0} (way : Way) (seen : I → ImageView) (first : Start) (jour
     pub cut : end ≡ Err fault.Sink → IsCutBy way first b.journal b.state.ended
     pub only : end ≢ Err fault.Failed
 
-  board_run : Rounded → run.state ≡ b.state → Left b.start b.journal → RunsFrom way seen first journal o ending (record { start = b.start; journal = b.journal; run = run })
+  board_run : Rounded → run.state ≡ b.state → Left b.start b.journal → RunsFrom way first journal o ending (record { start = b.start; journal = b.journal; run = run })
   board_run p same l =
       let k : Kept = record { start = b.start; journal = b.journal; run = run } in
       let state : b.state ≡ the_state k = p.board.last in
@@ -90,7 +90,7 @@ module _ {I : Type 0} (way : Way) (seen : I → ImageView) (first : Start) (jour
         went = λ e. subst (λ (x : Start). GoesBy way x b.journal) (sym p.start) (p.went e);
         only = p.only;
       } in
-      runs_from way seen first journal o k end ending
+      runs_from way first journal o k end ending
       (record { start = p.start; run = record { sound = p.board.sound; legal = p.board.legal; last = last }; orderly = p.board.orderly })
       played
       (subst (λ (s : State). Closes o.host o.host_now journal b.journal s end ending) last l.closes)
@@ -100,10 +100,10 @@ module _ {I : Type 0} (way : Way) (seen : I → ImageView) (first : Start) (jour
       (subst (λ (s : State). TakesSome s.console o.console o.console_now) state p.part)
 
   pub crew_runs : (start : Start) (history : List Signed) → Rounded → run.state ≡ b.state → start ≡ b.start → history ≡ b.journal → Left start history
-      → RunsFrom way seen first journal o ending (record { start = start; journal = history; run = run })
+      → RunsFrom way first journal o ending (record { start = start; journal = history; run = run })
   crew_runs start history p same is_start is_history =
-      subst (λ (x : Start). Left x history → RunsFrom way seen first journal o ending (record { start = x; journal = history; run = run })) (sym is_start)
-      (subst (λ (j : List Signed). Left b.start j → RunsFrom way seen first journal o ending (record { start = b.start; journal = j; run = run })) (sym is_history) (board_run p same))
+      subst (λ (x : Start). Left x history → RunsFrom way first journal o ending (record { start = x; journal = history; run = run })) (sym is_start)
+      (subst (λ (j : List Signed). Left b.start j → RunsFrom way first journal o ending (record { start = b.start; journal = j; run = run })) (sym is_history) (board_run p same))
 
 -- ---- a start of which nothing was run
 
@@ -138,13 +138,13 @@ if_both P Q (Some k) f h = f k h
 
 -- ---- a run whose images were opened before
 
-module _ {I : Type 0} (way : Way) (seen : I → ImageView) (first : Start) (journal : Option (List ℕ)) (old mid new : HostView) (console console_now : SinkView) (q : Quiet first.plan journal old mid) (ending : Ending) where
-  pub opened_runs : (kept : Option Kept) → IfSome kept (λ k. RunsFrom way seen first journal (outside mid new console console_now) ending k)
-      → IfSome kept (λ k. RunsFrom way seen first journal (outside old new console console_now) ending k)
+module _ (way : Way) (first : Start) (journal : Option (List ℕ)) (old mid new : HostView) (console console_now : SinkView) (q : Quiet first.plan journal old mid) (ending : Ending) where
+  pub opened_runs : (kept : Option Kept) → IfSome kept (λ k. RunsFrom way first journal (outside mid new console console_now) ending k)
+      → IfSome kept (λ k. RunsFrom way first journal (outside old new console console_now) ending k)
   opened_runs None h = tt
-  opened_runs (Some k) h = runs_moved way seen first journal old mid new console console_now ending k q h
+  opened_runs (Some k) h = runs_moved way first journal old mid new console console_now ending k q h
 
-  pub opened_causes : (kept : Option Kept) → IfSome kept (λ k. RunsFrom way seen first journal (outside mid new console console_now) ending k)
+  pub opened_causes : (kept : Option Kept) → IfSome kept (λ k. RunsFrom way first journal (outside mid new console console_now) ending k)
       → IfNone kept (ending ≡ how.Refused Memory) → (kept ≡ None → new ≡ mid) → IfNone kept (console_now ≡ console) → HasCauses (ending_status ending) old new console console_now
   opened_causes None h spent still silent =
       let e : ending_status ending ≡ 71 = ap ending_status spent in
@@ -152,9 +152,9 @@ module _ {I : Type 0} (way : Way) (seen : I → ImageView) (first : Start) (jour
       (subst (λ (x : SinkView). HasCauses (ending_status ending) mid new console x) (sym silent)
       (subst (λ (x : HostView). HasCauses (ending_status ending) mid x console console) (sym (still refl))
       (no_causes (ending_status ending) mid console (λ s. omega (arith, e, s)) (λ s. omega (arith, e, s)) (λ s. omega (arith, e, s)))))
-  opened_causes (Some k) h spent still silent = (runs_moved way seen first journal old mid new console console_now ending k q h).causes
+  opened_causes (Some k) h spent still silent = (runs_moved way first journal old mid new console console_now ending k q h).causes
 
-  pub opened_host : (kept : Option Kept) → IfSome kept (λ k. RunsFrom way seen first journal (outside mid new console console_now) ending k)
+  pub opened_host : (kept : Option Kept) → IfSome kept (λ k. RunsFrom way first journal (outside mid new console console_now) ending k)
       → (kept ≡ None → new ≡ mid) → LeavesHost (IsOwn first.plan journal) old new
   opened_host None h still = subst (λ (x : HostView). LeavesHost (IsOwn first.plan journal) old x) (sym (still refl)) q.leaves
-  opened_host (Some k) h still = (runs_moved way seen first journal old mid new console console_now ending k q h).host
+  opened_host (Some k) h still = (runs_moved way first journal old mid new console console_now ending k q h).host

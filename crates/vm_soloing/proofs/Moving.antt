@@ -4,7 +4,7 @@ use Rattle.std.proofs.lemmas.Bool.{cases_lt}
 use Rattle.vm_host.specs.Counts.{Rose}
 use Rattle.vm_host.specs.Leaves.{LeavesHost, LeavesSink, ReadsHost, TakesSome, WritesFiles}
 use Rattle.vm_host.specs.Told.{WhereTold}
-use Rattle.vm_host.specs.Views.{HostView, ImageView, SinkView}
+use Rattle.vm_host.specs.Views.{HostView, SinkView}
 use Rattle.vm_host.proofs.Frames.{leaves_is_some, leaves_on, reads_writes, writes_among, writes_leaves}
 use Rattle.vm_board.specs.Homes.{has_failed}
 use Rattle.vm_control.specs.declared.control.OutFault.TheVariants as fault
@@ -19,7 +19,7 @@ use Rattle.vm_outcome.proofs.Frames.{causes_after}
 use Rattle.vm_soloing.specs.Answers as answer
 use Rattle.vm_soloing.specs.Answers.{HasRun, IsSaved, RunAnswers, Way}
 use Rattle.vm_soloing.specs.Closing.{Closes, FollowAll, HasJournalCauses}
-use Rattle.vm_soloing.specs.Disks.{AllTell, IsOwn}
+use Rattle.vm_soloing.specs.Disks.{IsOwn}
 use Rattle.vm_soloing.specs.Keeping.{IsRunFrom, RunsFrom}
 use Rattle.vm_soloing.proofs.Closings.{saved_moved}
 use Rattle.vm_soloing.proofs.Runs.{End, IsPlayed, closed_where, closes_named, end_not_spent, run_answers, run_causes, the_state}
@@ -32,14 +32,14 @@ use Rattle.vm_status.specs.declared.refusal.Refusal.TheVariants.{HostFault, Memo
 
 -- ---- a run that was played
 
-pub runs_from : {I : Type 0} (way : Way) (seen : I → ImageView) (first : Start) (journal : Option (List ℕ)) (o : Outside) (k : Kept) (end : End) (ending : Ending)
+pub runs_from : (way : Way) (first : Start) (journal : Option (List ℕ)) (o : Outside) (k : Kept) (end : End) (ending : Ending)
     → IsRunFrom first k → IsPlayed way o k end → Closes o.host o.host_now journal k.journal (the_state k) end ending → HasJournalCauses (ending_status ending) o.host o.host_now
     → o.console.faults ≤ o.console_now.faults → (end ≡ Err fault.Sink → Rose o.console.faults o.console_now.faults) → (end ≡ Ok tt → o.console_now.faults ≡ o.console.faults)
     → LeavesHost (IsOwn first.plan journal) o.host o.host_now
-    → (end ≢ Err fault.Memory → AllTell seen → WhereTold o.host.tells (FollowAll o.host_now.file k.start k.journal))
+    → (end ≢ Err fault.Memory → WhereTold o.host.tells (FollowAll o.host_now.file k.start k.journal))
     → (end ≢ Err fault.Memory → (d : ℕ) → d < length k.start.plan.disks → has_failed d k.journal ≡ true → Rose o.host.image_faults o.host_now.image_faults)
-    → TakesSome (sent_in k) o.console o.console_now → RunsFrom way seen first journal o ending k
-runs_from way seen first journal o k end ending from played closes causes later cause quiet host disks failed part = record {
+    → TakesSome (sent_in k) o.console o.console_now → RunsFrom way first journal o ending k
+runs_from way first journal o k end ending from played closes causes later cause quiet host disks failed part = record {
   from = from;
   answers = run_answers way o journal k end ending played closes;
   causes = run_causes way o journal k ending causes later end played closes cause quiet;
@@ -94,15 +94,15 @@ run_moved way old mid new console console_now journal k ending same (answer.unsa
 run_moved way old mid new console console_now journal k ending same (answer.unwritten closed cut e) = answer.unwritten closed cut e
 run_moved way old mid new console console_now journal k ending same (answer.spent e) = answer.spent e
 
-pub runs_moved : {I : Type 0} (way : Way) (seen : I → ImageView) (first : Start) (journal : Option (List ℕ)) (old mid new : HostView) (console console_now : SinkView) (ending : Ending) (k : Kept)
-    → Quiet first.plan journal old mid → RunsFrom way seen first journal (outside mid new console console_now) ending k → RunsFrom way seen first journal (outside old new console console_now) ending k
-runs_moved way seen first journal old mid new console console_now ending k q r = record {
+pub runs_moved : (way : Way) (first : Start) (journal : Option (List ℕ)) (old mid new : HostView) (console console_now : SinkView) (ending : Ending) (k : Kept)
+    → Quiet first.plan journal old mid → RunsFrom way first journal (outside mid new console console_now) ending k → RunsFrom way first journal (outside old new console console_now) ending k
+runs_moved way first journal old mid new console console_now ending k q r = record {
   from = r.from;
   answers = run_moved way old mid new console console_now journal k ending q.leaves.told r.answers;
   causes = causes_after (ending_status ending) old mid new console console_now q.faults q.misses r.causes;
   named = r.named;
   host = leaves_on old mid new (IsOwn first.plan journal) q.leaves r.host;
-  disks = λ is tell told. r.disks is tell (q.leaves.told ∙ told);
+  disks = λ is told. r.disks is (q.leaves.told ∙ told);
   failed = λ is d within f. subst (λ (n : ℕ). Rose n new.image_faults) q.image_faults (r.failed is d within f);
   console = r.console;
 }
@@ -146,13 +146,13 @@ unlent_answers way o journal k first r same none still (inl e) = answer.spent (a
 unlent_answers way o journal k first r same none still (inr (d, within, e)) =
     answer.unopened none still d (subst (λ (s : Start). d < length s.plan.disks) (sym same) within) (as_ending _ _ (e ∙ ap (λ (s : Start). HostFault (path_of s.plan d)) (sym same)))
 
-pub unlent_runs : {I X : Type 0} (way : Way) (seen : I → ImageView) (first : Start) (journal : Option (List ℕ)) (old new : HostView) (console : SinkView) (k : Kept) (result : Result X Refusal) (r : Refusal) (ending : Ending)
+pub unlent_runs : {X : Type 0} (way : Way) (first : Start) (journal : Option (List ℕ)) (old new : HostView) (console : SinkView) (k : Kept) (result : Result X Refusal) (r : Refusal) (ending : Ending)
     → ending ≡ how.Refused r → IsRunFrom first k → k.journal ≡ [] → result ≡ Err r → IsUnlent first r → HasReadCauses result old new → WritesFiles (IsDiskOf first.plan) old new
-    → RunsFrom way seen first journal (outside old new console console) ending k
-unlent_runs way seen first journal old new console k result r ending ends from none is un causes writes =
+    → RunsFrom way first journal (outside old new console console) ending k
+unlent_runs way first journal old new console k result r ending ends from none is un causes writes =
     let s = unlent_status first r un in
     let still : LeavesSink console console = record { told = refl; taken = λ _. refl } in
-    subst (λ (x : Ending). RunsFrom way seen first journal (outside old new console console) x k) (sym ends)
+    subst (λ (x : Ending). RunsFrom way first journal (outside old new console console) x k) (sym ends)
     (record {
       from = from;
       answers = unlent_answers way (outside old new console console) journal k first r from.start none still un;

@@ -5,7 +5,7 @@ use Rattle.std.proofs.lemmas.Bool.{cases_Bool}
 use Rattle.vm_host.specs.Counts.{Rose}
 use Rattle.vm_host.specs.Leaves.{LeavesHost, TakesSome}
 use Rattle.vm_host.specs.Told.{WhereTold}
-use Rattle.vm_host.specs.Views.{HostView, ImageView, SinkView}
+use Rattle.vm_host.specs.Views.{HostView, SinkView}
 use Rattle.vm_host.proofs.Frames.{leaves_on}
 use Rattle.vm_board.specs.Homes.{has_failed}
 use Rattle.vm_cmd.specs.declared.command.RunWords.{RunWords}
@@ -20,7 +20,7 @@ use Rattle.vm_replaying.proofs.Starting.{as_ending}
 use Rattle.vm_soloing.specs.Answers as answer
 use Rattle.vm_soloing.specs.Answers.{GuestAnswers, RunAnswers, Way}
 use Rattle.vm_soloing.specs.Closing.{FollowAll}
-use Rattle.vm_soloing.specs.Disks.{AllTell, ChangesOwn, Follows, HoldDisks, IsOwn}
+use Rattle.vm_soloing.specs.Disks.{ChangesOwn, Follows, HoldDisks, IsOwn}
 use Rattle.vm_soloing.specs.Keeping.{NoneFailed, RunsFrom}
 use Rattle.vm_soloing.proofs.Doubts.{doubt_has_cause}
 use Rattle.vm_soloing.proofs.Moving.{Quiet, runs_moved}
@@ -68,13 +68,13 @@ not_started way old new console w journal refusal e (inr is) =
 
 -- ---- it was
 
-module _ {I : Type 0} (way : Way) (seen : I → ImageView) (w : RunWords) (journal : Option (List ℕ)) (named : journal ≡ w.journal) (start : Start) (old mid new : HostView) (console console_now : SinkView)
+module _ (way : Way) (w : RunWords) (journal : Option (List ℕ)) (named : journal ≡ w.journal) (start : Start) (old mid new : HostView) (console console_now : SinkView)
     (ending : Ending) (q : Quiet start.plan journal old mid) where
   abbrev Runs : Kept → Type 0
-  Runs k = RunsFrom way seen start journal (outside mid new console console_now) ending k
+  Runs k = RunsFrom way start journal (outside mid new console console_now) ending k
 
-  whole : (k : Kept) → Runs k → RunsFrom way seen start journal (outside old new console console_now) ending k
-  whole k r = runs_moved way seen start journal old mid new console console_now ending k q r
+  whole : (k : Kept) → Runs k → RunsFrom way start journal (outside old new console console_now) ending k
+  whole k r = runs_moved way start journal old mid new console console_now ending k q r
 
   pub solo_answers : (kept : Option Kept) → IfSome kept Runs → IfNone kept (ending ≡ how.Refused Memory) → GuestAnswers way (outside old new console console_now) w ending kept
   solo_answers None r spent = answer.spent spent
@@ -125,11 +125,11 @@ module _ {I : Type 0} (way : Way) (seen : I → ImageView) (w : RunWords) (journ
         let a = all d within in
         a.1 ∙ ap {A = List ℕ} {B = Option (List ℕ)} (λ c. Some c) (reads_as_disk k.start k.journal run.sound run.legal d within is a.0 a.2) ∙ sym (files d within)
 
-  pub solo_disks : (kept : Option Kept) → WhereTold old.tells (AreFilesOf old.file start) → IfSome kept Runs → IsEnd (ending_status ending) → AllTell seen
+  pub solo_disks : (kept : Option Kept) → WhereTold old.tells (AreFilesOf old.file start) → IfSome kept Runs → IsEnd (ending_status ending)
       → WhereTold old.tells (IfSome kept (λ k. HoldDisks old.file new.file k))
-  solo_disks None files r is tell told = tt
-  solo_disks (Some k) files r is tell told =
-      follows k r.from.run (subst (λ (s : Start). AreFilesOf old.file s) (sym r.from.start) (files told)) (r.disks is tell (q.leaves.told ∙ told))
+  solo_disks None files r is told = tt
+  solo_disks (Some k) files r is told =
+      follows k r.from.run (subst (λ (s : Start). AreFilesOf old.file s) (sym r.from.start) (files told)) (r.disks is (q.leaves.told ∙ told))
 
   rose_before : Rose mid.image_faults new.image_faults → Rose old.image_faults new.image_faults
   rose_before rose = subst (λ (n : ℕ). Rose n new.image_faults) q.image_faults rose

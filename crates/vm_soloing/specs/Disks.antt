@@ -1,7 +1,7 @@
 -- The files of a start's disks after a run.
 use Rattle.std.specs.Prelude.{◌≡◌, ◌⊎◌, ℕ, ◌<◌, Bool, true, false, List, length, slice_index_or, Option, Some}
 use Rattle.vm_host.specs.Leaves.{LeavesHost, ReadsHost}
-use Rattle.vm_host.specs.Views.{HostView, ImageView}
+use Rattle.vm_host.specs.Views.{HostView}
 use Rattle.vm_board.specs.Homes.{ReadsAs}
 use Rattle.vm_cmd.specs.declared.command.RunWords.{RunWords}
 use Rattle.vm_law.specs.declared.plan.Plan.{Plan}
@@ -33,7 +33,3 @@ IsOwn plan journal q = IsDiskOf plan q ⊎ (journal ≡ Some q)
 abbrev pub ChangesOwn : RunWords → HostView → HostView → Type 0
 ChangesOwn w old new =
     ReadsHost old new ⊎ ((start : Start) × IsStartOf old.tells old.file w w.journal start × LeavesHost (IsOwn start.plan w.journal) old new)
-
--- the images of a host tell their bytes
-abbrev pub AllTell : {I : Type 0} → (I → ImageView) → Type 0
-AllTell {I = I} seen = (image : I) → (seen image).tells ≡ true

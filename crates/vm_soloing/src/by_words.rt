@@ -8,7 +8,7 @@ ghost use Rattle.vm_outcome.specs.Ends.{ending_status};
 ghost use Rattle.vm_outcome.specs.Outside.{IsEnd, StartsAt, outside, sent_in};
 ghost use Rattle.vm_outcome.specs.Telling.{IsRun};
 ghost use Rattle.vm_soloing.specs.Answers.{GuestAnswers, by_rounds};
-ghost use Rattle.vm_soloing.specs.Disks.{AllTell, ChangesOwn, HoldDisks};
+ghost use Rattle.vm_soloing.specs.Disks.{ChangesOwn, HoldDisks};
 ghost use Rattle.vm_soloing.specs.Keeping.{NoneFailed};
 ghost use Rattle.vm_start.specs.Causes.{NoneRefused};
 ghost use Rattle.vm_start.specs.Start.{IsStartOf, StartOf};
@@ -53,7 +53,7 @@ pub fn solo<H: Host, S: Sink, G: Gate>(
     ensures named { (name : List ℕ) → result.ending ≡ Ending.Refused (Refusal.HostFault name) → IsNamed name (H.seen host.new) }
     ensures files { ChangesOwn words.now (H.seen host.old) (H.seen host.new) }
     // Where the run came to its end, each disk's file follows its history.
-    ensures disks { IsEnd (ending_status result.ending) → AllTell H.Image.seen → WhereTold (H.seen host.old).tells
+    ensures disks { IsEnd (ending_status result.ending) → WhereTold (H.seen host.old).tells
         (IfSome result.kept (λ k. HoldDisks (H.seen host.old).file (H.seen host.new).file k)) }
     // Where no image came back with a failure, no call of one failed, and no sector is in doubt.
     ensures sound_images { IsEnd (ending_status result.ending) → (Rose (H.seen host.old).image_faults (H.seen host.new).image_faults → ⊥)

@@ -12,7 +12,7 @@ ghost use Rattle.vm_outcome.specs.Ends.{ending_status, result_status};
 ghost use Rattle.vm_solo.specs.Home.{AreAllHome};
 ghost use Rattle.vm_soloing.specs.Answers.{IsSaved};
 ghost use Rattle.vm_soloing.specs.Closing.{ChangesOnly, Closes, FollowAll, HasJournalCauses, IsApart, IsUnsaved, Saves};
-ghost use Rattle.vm_soloing.specs.Disks.{AllTell, IsOwn};
+ghost use Rattle.vm_soloing.specs.Disks.{IsOwn};
 ghost use Rattle.vm_start.specs.Images.{AllStand, AreApart};
 
 use ckpt_store::save;
@@ -160,7 +160,7 @@ pub fn give_back<H: Host>(
     ensures causes { HasJournalCauses (ending_status result) (H.seen host.old) (H.seen host.new) }
     ensures host { LeavesHost (IsOwn start.now.plan (option_copied journal.entry)) (H.seen host.old) (H.seen host.new) }
     // Where the run is closed each disk's file follows its history, and of its images one has failed where a call of one did.
-    ensures disks { end ≢ Err OutFault.Memory → AllTell H.Image.seen → WhereTold (H.seen host.old).tells (FollowAll (H.seen host.new).file start.now history.now) }
+    ensures disks { end ≢ Err OutFault.Memory → WhereTold (H.seen host.old).tells (FollowAll (H.seen host.new).file start.now history.now) }
     ensures failed { end ≢ Err OutFault.Memory → (d : ℕ) → d < length start.now.plan.disks → has_failed d history.now ≡ true
         → Rose (H.seen host.old).image_faults (H.seen host.new).image_faults }
 {

@@ -68,7 +68,7 @@ fn play_crew<H: Host, S: Sink, G: Gate>(
     requires apart { AreApart crew.board.start.plan }
     requires stand { WhereTold (H.seen host.old).tells (AllStand (H.seen host.old).file crew.board.start.plan) }
     requires journal { IsApart (option_copied journal) crew.board.start.plan }
-    ensures runs { IfSome result.kept (λ k. RunsFrom by_rounds H.Image.seen crew.board.start (option_copied journal.entry)
+    ensures runs { IfSome result.kept (λ k. RunsFrom by_rounds crew.board.start (option_copied journal.entry)
         (outside (H.seen host.old) (H.seen host.new) (S.seen console.old) (S.seen console.new)) result.ending k) }
     ensures kept { IsSome result.kept }
 {
@@ -101,7 +101,7 @@ fn run_crew<H: Host, S: Sink, G: Gate>(
     requires apart { AreApart start.plan }
     requires stand { WhereTold (H.seen host.old).tells (AllStand (H.seen host.old).file start.plan) }
     requires journal { IsApart (option_copied journal) start.plan }
-    ensures runs { IfSome result.kept (λ k. RunsFrom by_rounds H.Image.seen start (option_copied journal.entry)
+    ensures runs { IfSome result.kept (λ k. RunsFrom by_rounds start (option_copied journal.entry)
         (outside (H.seen host.old) (H.seen host.new) (S.seen console.old) (S.seen console.new)) result.ending k) }
     ensures spent { IfNone result.kept (result.ending ≡ Ending.Refused Refusal.Memory) }
     ensures still { IfNone result.kept (host.new ≡ host.old) }
@@ -127,7 +127,7 @@ pub fn run_start<H: Host, S: Sink, G: Gate>(
     requires apart { AreApart start.plan }
     requires disks { WhereTold (H.seen host.old).tells (AreFilesOf (H.seen host.old).file start) }
     requires journal { IsApart (option_copied journal) start.plan }
-    ensures runs { IfSome result.kept (λ k. RunsFrom by_rounds H.Image.seen start (option_copied journal.entry)
+    ensures runs { IfSome result.kept (λ k. RunsFrom by_rounds start (option_copied journal.entry)
         (outside (H.seen host.old) (H.seen host.new) (S.seen console.old) (S.seen console.new)) result.ending k) }
     ensures spent { IfNone result.kept (result.ending ≡ Ending.Refused Refusal.Memory) }
     ensures causes { HasCauses (ending_status result.ending) (H.seen host.old) (H.seen host.new) (S.seen console.old) (S.seen console.new) }

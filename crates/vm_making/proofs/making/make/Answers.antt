@@ -20,13 +20,13 @@ returns-in_default-clause-answers g c = answer.spent refl refl
 pub returns-clause-answers : goal.returns-clause-answers
 returns-clause-answers g c =
     make_answers c.args.cpus c.args.number c.run_start-ending.result.ending c.tell_total-ending.result (g.S.Sink.seen c.run_start-ending.new.console) (g.S.Sink.seen c.tell_total-ending.new.console) c.run_start-ending.new.console c.tell_total-ending.new.console
-    (λ e. ap g.S.Sink.seen e) c.tell_total-ending.ensures _ c.in-Ok.start c.in-Ok.ensures.start _ _ (g.S.Sink.seen c.args.console.now) c.run_start-ending.result.kept
+    (λ e. ap g.S.Sink.seen e) c.tell_total-ending.ensures c.in-Ok.start c.in-Ok.ensures.start _ _ (g.S.Sink.seen c.args.console.now) c.run_start-ending.result.kept
     c.run_start-ending.ensures.runs c.run_start-ending.ensures.spent
 
 pub returns-clause-start : goal.returns-clause-start
 returns-clause-start g c =
     make_start c.args.cpus c.args.number c.run_start-ending.result.ending c.tell_total-ending.result (g.S.Sink.seen c.run_start-ending.new.console) (g.S.Sink.seen c.tell_total-ending.new.console) c.run_start-ending.new.console c.tell_total-ending.new.console
-    (λ e. ap g.S.Sink.seen e) c.tell_total-ending.ensures _ c.in-Ok.start c.in-Ok.ensures.start _ _ (g.S.Sink.seen c.args.console.now) c.run_start-ending.result.kept
+    (λ e. ap g.S.Sink.seen e) c.tell_total-ending.ensures c.in-Ok.start c.in-Ok.ensures.start _ _ (g.S.Sink.seen c.args.console.now) c.run_start-ending.result.kept
     c.run_start-ending.ensures.runs
 
 pub returns-clause-run : goal.returns-clause-run

@@ -24,7 +24,7 @@ returns-in-Ok-clause-answers g c =
     let ending = c.run_start.result.ending in
     let kept = c.run_start.result.kept in
     let ran = c.run_start.ensures in
-    solo_answers by_rounds _ c.args.words.now journal c.as_ref-journal.ensures.value start old mid new console console_now ending q kept ran.runs ran.spent
+    solo_answers by_rounds c.args.words.now journal c.as_ref-journal.ensures.value start old mid new console console_now ending q kept ran.runs ran.spent
 
 pub returns-in-Ok-clause-run : goal.returns-in-Ok-clause-run
 returns-in-Ok-clause-run g c =
@@ -39,7 +39,7 @@ returns-in-Ok-clause-run g c =
     let ending = c.run_start.result.ending in
     let kept = c.run_start.result.kept in
     let ran = c.run_start.ensures in
-    solo_run by_rounds _ c.args.words.now journal c.as_ref-journal.ensures.value start old mid new console console_now ending q kept ran.runs
+    solo_run by_rounds c.args.words.now journal c.as_ref-journal.ensures.value start old mid new console console_now ending q kept ran.runs
 
 pub returns-in-Ok-clause-start : goal.returns-in-Ok-clause-start
 returns-in-Ok-clause-start g c =
@@ -54,7 +54,7 @@ returns-in-Ok-clause-start g c =
     let ending = c.run_start.result.ending in
     let kept = c.run_start.result.kept in
     let ran = c.run_start.ensures in
-    solo_start by_rounds _ c.args.words.now journal c.as_ref-journal.ensures.value start old mid new console console_now ending q old.tells old.file kept c.in-Ok.ensures.start ran.runs
+    solo_start by_rounds c.args.words.now journal c.as_ref-journal.ensures.value start old mid new console console_now ending q old.tells old.file kept c.in-Ok.ensures.start ran.runs
 
 pub returns-in-Ok-clause-begins : goal.returns-in-Ok-clause-begins
 returns-in-Ok-clause-begins g c = λ first told is none.
@@ -69,7 +69,7 @@ returns-in-Ok-clause-begins g c = λ first told is none.
     let ending = c.run_start.result.ending in
     let kept = c.run_start.result.kept in
     let ran = c.run_start.ensures in
-    solo_begins by_rounds _ c.args.words.now journal c.as_ref-journal.ensures.value start old mid new console console_now ending q first kept
+    solo_begins by_rounds c.args.words.now journal c.as_ref-journal.ensures.value start old mid new console console_now ending q first kept
     (c.in-Ok.ensures.complete first told (subst (λ (j : Option (List ℕ)). IsStartOf true old.file c.args.words.now j first) (sym c.as_ref-journal.ensures.value) is)
     (none_before old mid new none ran.causes.later.0 ran.causes.later.1))
     ran.runs ran.spent
@@ -91,7 +91,7 @@ returns-in-Ok-clause-orderly g c =
     let ending = c.run_start.result.ending in
     let kept = c.run_start.result.kept in
     let ran = c.run_start.ensures in
-    solo_orderly by_rounds _ c.args.words.now journal c.as_ref-journal.ensures.value start old mid new console console_now ending q kept ran.runs
+    solo_orderly by_rounds c.args.words.now journal c.as_ref-journal.ensures.value start old mid new console console_now ending q kept ran.runs
 
 pub returns-in-Ok-clause-causes : goal.returns-in-Ok-clause-causes
 returns-in-Ok-clause-causes g c =
@@ -121,7 +121,7 @@ returns-in-Ok-clause-named g c = λ name e.
     let ending = c.run_start.result.ending in
     let kept = c.run_start.result.kept in
     let ran = c.run_start.ensures in
-    solo_named by_rounds _ c.args.words.now journal c.as_ref-journal.ensures.value start old mid new console console_now ending q kept name ran.runs ran.spent e
+    solo_named by_rounds c.args.words.now journal c.as_ref-journal.ensures.value start old mid new console console_now ending q kept name ran.runs ran.spent e
 
 pub returns-in-Ok-clause-files : goal.returns-in-Ok-clause-files
 returns-in-Ok-clause-files g c =
@@ -136,7 +136,7 @@ returns-in-Ok-clause-files g c =
     let ending = c.run_start.result.ending in
     let kept = c.run_start.result.kept in
     let ran = c.run_start.ensures in
-    solo_own by_rounds g.H.Image.Image.seen c.args.words.now journal c.as_ref-journal.ensures.value start old mid new console console_now ending q c.in-Ok.ensures.start ran.host
+    solo_own by_rounds c.args.words.now journal c.as_ref-journal.ensures.value start old mid new console console_now ending q c.in-Ok.ensures.start ran.host
 
 pub returns-in-Ok-clause-disks : goal.returns-in-Ok-clause-disks
 returns-in-Ok-clause-disks g c =
@@ -151,7 +151,7 @@ returns-in-Ok-clause-disks g c =
     let ending = c.run_start.result.ending in
     let kept = c.run_start.result.kept in
     let ran = c.run_start.ensures in
-    solo_disks by_rounds _ c.args.words.now journal c.as_ref-journal.ensures.value start old mid new console console_now ending q kept c.in-Ok.ensures.disks ran.runs
+    solo_disks by_rounds c.args.words.now journal c.as_ref-journal.ensures.value start old mid new console console_now ending q kept c.in-Ok.ensures.disks ran.runs
 
 pub returns-in-Ok-clause-sound_images : goal.returns-in-Ok-clause-sound_images
 returns-in-Ok-clause-sound_images g c =
@@ -166,7 +166,7 @@ returns-in-Ok-clause-sound_images g c =
     let ending = c.run_start.result.ending in
     let kept = c.run_start.result.kept in
     let ran = c.run_start.ensures in
-    solo_sound by_rounds _ c.args.words.now journal c.as_ref-journal.ensures.value start old mid new console console_now ending q kept ran.runs ran.spent
+    solo_sound by_rounds c.args.words.now journal c.as_ref-journal.ensures.value start old mid new console console_now ending q kept ran.runs ran.spent
 
 pub returns-in-Ok-clause-doubted : goal.returns-in-Ok-clause-doubted
 returns-in-Ok-clause-doubted g c =
@@ -181,7 +181,7 @@ returns-in-Ok-clause-doubted g c =
     let ending = c.run_start.result.ending in
     let kept = c.run_start.result.kept in
     let ran = c.run_start.ensures in
-    solo_doubted by_rounds _ c.args.words.now journal c.as_ref-journal.ensures.value start old mid new console console_now ending q kept ran.runs ran.spent
+    solo_doubted by_rounds c.args.words.now journal c.as_ref-journal.ensures.value start old mid new console console_now ending q kept ran.runs ran.spent
 
 pub returns-in-Ok-clause-console : goal.returns-in-Ok-clause-console
 returns-in-Ok-clause-console g c =
@@ -196,7 +196,7 @@ returns-in-Ok-clause-console g c =
     let ending = c.run_start.result.ending in
     let kept = c.run_start.result.kept in
     let ran = c.run_start.ensures in
-    solo_console by_rounds _ c.args.words.now journal c.as_ref-journal.ensures.value start old mid new console console_now ending q kept ran.runs
+    solo_console by_rounds c.args.words.now journal c.as_ref-journal.ensures.value start old mid new console console_now ending q kept ran.runs
 
 -- ---- they give none
 

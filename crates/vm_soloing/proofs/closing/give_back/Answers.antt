@@ -19,9 +19,10 @@ returns-clause-host g c =
     c.close_images.ensures.leaves c.close.ensures.host
 
 pub returns-clause-disks : goal.returns-clause-disks
-returns-clause-disks g c = λ well tell.
+returns-clause-disks g c = λ well.
     back_follows _ c.args.start.now c.args.history.now c.args.images.items c.requires.count (option_copied c.args.journal) (g.H.Host.seen c.args.host.now) (g.H.Host.seen c.close_images.new.host)
-    (g.H.Host.seen c.close.new.host) (c.requires.home well) c.requires.journal c.close_images.ensures.leaves.told c.close.ensures.host c.close_images.ensures.content tell
+    (g.H.Host.seen c.close.new.host) (c.requires.home well) c.requires.journal c.close_images.ensures.leaves.told c.close.ensures.host c.close_images.ensures.content
+    (λ told image. g.met.H.Host.images_tell c.args.host.now image told)
 
 pub returns-clause-failed : goal.returns-clause-failed
 returns-clause-failed g c = λ well d within failed.

@@ -43,7 +43,7 @@ returns-clause-runs g c =
     let played = c.play-end.ensures in
     let back = c.give_back-ending.ensures in
     let mid : Outside = outside (g.H.Host.seen c.play-end.new.host) (g.H.Host.seen c.give_back-ending.new.host) (g.S.Sink.seen c.args.console.now) (g.S.Sink.seen c.play-end.new.console) in
-    subst (λ h. RunsFrom by_rounds g.H.Image.Image.seen c.args.crew.board.start (option_copied c.args.journal)
+    subst (λ h. RunsFrom by_rounds c.args.crew.board.start (option_copied c.args.journal)
     (outside (g.H.Host.seen h) (g.H.Host.seen c.give_back-ending.new.host) (g.S.Sink.seen c.args.console.now) (g.S.Sink.seen c.play-end.new.console)) c.give_back-ending.result
     (record { start = p.0; journal = p.1; run = p.2 }))
     played.host

@@ -22,7 +22,7 @@ play_crew-requires-clause-journal g c = λ lifetimes outlive. subst (λ (s : Sta
 
 pub returns-in-Ok-clause-runs : goal.returns-in-Ok-clause-runs
 returns-in-Ok-clause-runs g c =
-    subst (λ (s : Start). IfSome c.play_crew.result.kept (λ k. RunsFrom by_rounds g.H.Image.Image.seen s (option_copied c.args.journal)
+    subst (λ (s : Start). IfSome c.play_crew.result.kept (λ k. RunsFrom by_rounds s (option_copied c.args.journal)
     (outside (g.H.Host.seen c.args.host.now) (g.H.Host.seen c.play_crew.new.host) (g.S.Sink.seen c.args.console.now) (g.S.Sink.seen c.play_crew.new.console)) c.play_crew.result.ending k))
     c.in-Ok.ensures.start c.play_crew.ensures.runs
 

@@ -20,7 +20,7 @@ returns-in-Ok-open_images-clause-runs g c =
     let old = g.H.Host.seen c.args.host.now in
     let mid = g.H.Host.seen c.open_images.new.host in
     let opened = c.in-Ok-open_images.ensures in
-    opened_runs by_rounds _ c.args.start (option_copied c.args.journal) old mid (g.H.Host.seen c.run_crew.new.host) (g.S.Sink.seen c.args.console.now) (g.S.Sink.seen c.run_crew.new.console)
+    opened_runs by_rounds c.args.start (option_copied c.args.journal) old mid (g.H.Host.seen c.run_crew.new.host) (g.S.Sink.seen c.args.console.now) (g.S.Sink.seen c.run_crew.new.console)
     (quiet_opens c.in-Ok-open_images.images c.args.start.plan (option_copied c.args.journal) old mid opened.causes opened.leaves) c.run_crew.result.ending c.run_crew.result.kept c.run_crew.ensures.runs
 
 pub returns-in-Ok-open_images-clause-causes : goal.returns-in-Ok-open_images-clause-causes
@@ -29,7 +29,7 @@ returns-in-Ok-open_images-clause-causes g c =
     let mid = g.H.Host.seen c.open_images.new.host in
     let opened = c.in-Ok-open_images.ensures in
     let ran = c.run_crew.ensures in
-    opened_causes by_rounds _ c.args.start (option_copied c.args.journal) old mid (g.H.Host.seen c.run_crew.new.host) (g.S.Sink.seen c.args.console.now) (g.S.Sink.seen c.run_crew.new.console)
+    opened_causes by_rounds c.args.start (option_copied c.args.journal) old mid (g.H.Host.seen c.run_crew.new.host) (g.S.Sink.seen c.args.console.now) (g.S.Sink.seen c.run_crew.new.console)
     (quiet_opens c.in-Ok-open_images.images c.args.start.plan (option_copied c.args.journal) old mid opened.causes opened.leaves) c.run_crew.result.ending c.run_crew.result.kept ran.runs ran.spent
     (λ e. ap g.H.Host.seen (none_of _ c.run_crew.result.kept ran.still e)) (if_none _ _ c.run_crew.result.kept (λ e. ap (λ s. g.S.Sink.seen s) e) ran.silent)
 
@@ -39,7 +39,7 @@ returns-in-Ok-open_images-clause-host g c =
     let mid = g.H.Host.seen c.open_images.new.host in
     let opened = c.in-Ok-open_images.ensures in
     let ran = c.run_crew.ensures in
-    opened_host by_rounds _ c.args.start (option_copied c.args.journal) old mid (g.H.Host.seen c.run_crew.new.host) (g.S.Sink.seen c.args.console.now) (g.S.Sink.seen c.run_crew.new.console)
+    opened_host by_rounds c.args.start (option_copied c.args.journal) old mid (g.H.Host.seen c.run_crew.new.host) (g.S.Sink.seen c.args.console.now) (g.S.Sink.seen c.run_crew.new.console)
     (quiet_opens c.in-Ok-open_images.images c.args.start.plan (option_copied c.args.journal) old mid opened.causes opened.leaves) c.run_crew.result.ending c.run_crew.result.kept ran.runs
     (λ e. ap g.H.Host.seen (none_of _ c.run_crew.result.kept ran.still e))
 
@@ -48,7 +48,7 @@ returns-in-Ok-open_images-clause-host g c =
 pub returns-in-Err-open_images-clause-runs : goal.returns-in-Err-open_images-clause-runs
 returns-in-Err-open_images-clause-runs g c =
     unlent_kept _ _ c.unopened.result.kept c.unopened.ensures.kept
-    (λ k p. unlent_runs by_rounds _ c.args.start (option_copied c.args.journal) (g.H.Host.seen c.args.host.now) (g.H.Host.seen c.open_images.new.host) (g.S.Sink.seen c.args.console.now) k c.open_images.result
+    (λ k p. unlent_runs by_rounds c.args.start (option_copied c.args.journal) (g.H.Host.seen c.args.host.now) (g.H.Host.seen c.open_images.new.host) (g.S.Sink.seen c.args.console.now) k c.open_images.result
     c.in-Err-open_images.refusal c.unopened.result.ending c.unopened.ensures.ending p.0 p.1 c.in-Err-open_images.is c.in-Err-open_images.ensures.refusal c.open_images.ensures.causes c.open_images.ensures.leaves)
 
 pub returns-in-Err-open_images-clause-spent : goal.returns-in-Err-open_images-clause-spent
