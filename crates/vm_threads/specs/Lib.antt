@@ -1,0 +1,4 @@
+pub mod Chair
+pub mod Crew
+pub mod New
+pub mod Seats
