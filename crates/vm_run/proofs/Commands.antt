@@ -12,7 +12,7 @@ use Rattle.vm_host.specs.Counts.{Rose}
 use Rattle.vm_host.specs.Crash.{SinceEarlier}
 use Rattle.vm_host.specs.Leaves.{ReadsHost, TakesSome, WritesFile}
 use Rattle.vm_host.specs.Told.{WhereTold}
-use Rattle.vm_host.specs.Views.{HostView, ImageView, SinkView}
+use Rattle.vm_host.specs.Views.{HostView, SinkView}
 use Rattle.vm_host.proofs.Frames.{reads_itself, reads_writes}
 use Rattle.vm_journal.specs.declared.fault.JournalKind.{JournalKind}
 use Rattle.vm_journal.specs.Reading.{whole}
@@ -46,8 +46,8 @@ use Rattle.vm_run.specs.Works.{Works}
 use Rattle.vm_run.proofs.Known.{spent_done}
 use Rattle.vm_replaying.proofs.Starts.{OfFiles, plan_of_files, start_of_files}
 use Rattle.vm_soloing.specs.Answers as guest_answer
-use Rattle.vm_soloing.specs.Answers.{GuestAnswers, RunAnswers, Way, by_rounds}
-use Rattle.vm_soloing.specs.Disks.{AllTell, ChangesOwn, HoldDisks}
+use Rattle.vm_soloing.specs.Answers.{GuestAnswers, RunAnswers, Way, by_rounds, in_threads}
+use Rattle.vm_soloing.specs.Disks.{ChangesOwn, HoldDisks}
 use Rattle.vm_soloing.specs.Keeping.{NoneFailed}
 use Rattle.vm_start.specs.Causes.{NoneRefused}
 use Rattle.vm_start.specs.Start.{IsPlanOf, IsStartOf, PlanOf, StartOf}
@@ -117,7 +117,7 @@ one_journal bytes a b p q =
 
 -- ---- solo
 
-module _ {A B I : Type 0} (see : A → HostView) (watch : B → SinkView) (image : I → ImageView) (host host_now : A) (console console_now : B) (ending : Ending) (kept : Option Kept) where
+module _ {A B : Type 0} (see : A → HostView) (watch : B → SinkView) (host host_now : A) (console console_now : B) (ending : Ending) (kept : Option Kept) where
   abbrev o : Outside
   o = outside (see host) (see host_now) (watch console) (watch console_now)
 
@@ -245,7 +245,7 @@ module _ {A B I : Type 0} (see : A → HostView) (watch : B → SinkView) (image
 
     -- ---- the works of solo
 
-    disks_of : (w : RunWords) (x : Option Kept) → (AllTell image → WhereTold (see host).tells (IfSome x (λ k. HoldDisks (see host).file (see host_now).file k))) → IfSome x (λ k. DisksOf image (Solo w) (see host) (see host_now) k)
+    disks_of : (w : RunWords) (x : Option Kept) → (WhereTold (see host).tells (IfSome x (λ k. HoldDisks (see host).file (see host_now).file k))) → IfSome x (λ k. DisksOf (Solo w) (see host) (see host_now) k)
     disks_of w None h = tt
     disks_of w (Some k) h = h
 
@@ -255,10 +255,10 @@ module _ {A B I : Type 0} (see : A → HostView) (watch : B → SinkView) (image
           → ((start : Start) → (see host).tells ≡ true → IsStartOf true (see host).file w w.journal start → NoneRefused (see host) (see host_now) → StartsAt start ending kept)
           → ((e : Refusal) → (see host).tells ≡ true → StartOf true (see host).file w w.journal (Err e) → IsOfFiles e → IsNone kept)
           → IfSome kept (λ k. IsOrderly k.start k.journal) → ChangesOwn w (see host) (see host_now)
-          → (IsEnd (ending_status ending) → AllTell image → WhereTold (see host).tells (IfSome kept (λ k. HoldDisks (see host).file (see host_now).file k)))
+          → (IsEnd (ending_status ending) → WhereTold (see host).tells (IfSome kept (λ k. HoldDisks (see host).file (see host_now).file k)))
           → (IsEnd (ending_status ending) → (Rose (see host).image_faults (see host_now).image_faults → ⊥) → (ending_status ending ≢ 8) × IfSome kept (λ k. NoneFailed k))
           → (ending_status ending ≡ 8 → Rose (see host).image_faults (see host_now).image_faults)
-          → Works see watch image (Solo w) host host_now console console_now ending kept
+          → Works see watch (Solo w) host host_now console console_now ending kept
       solo_works w answers start begins refuses orderly files disks sound doubted = record {
         answers = answer.ran_solo w refl answers;
         started = start;
@@ -272,6 +272,33 @@ module _ {A B I : Type 0} (see : A → HostView) (watch : B → SinkView) (image
         named = named;
         complete = λ told can calm. guest_completes calm by_rounds w can.0 kept refl (begins can.0 told can.1 (none_refused (see host) (see host_now) (watch console) (watch console_now) calm)) answers;
         refusal = λ told must calm. guest_refuses calm by_rounds w (none_kept kept (refuses must.0 told must.1 must.2)) answers;
+        doubted = doubted;
+        sound_images = λ end calm. (sound end calm).1;
+      }
+
+      -- ---- and of run
+
+      pub run_works : (w : RunWords) → GuestAnswers in_threads o w ending kept → IfSome kept (λ k. IsStartOf (see host).tells (see host).file w w.journal k.start)
+          → ((start : Start) → (see host).tells ≡ true → IsStartOf true (see host).file w w.journal start → NoneRefused (see host) (see host_now) → StartsAt start ending kept)
+          → ((e : Refusal) → (see host).tells ≡ true → StartOf true (see host).file w w.journal (Err e) → IsOfFiles e → IsNone kept)
+          → IfSome kept (λ k. IsOrderly k.start k.journal) → ChangesOwn w (see host) (see host_now)
+          → (IsEnd (ending_status ending) → WhereTold (see host).tells (IfSome kept (λ k. HoldDisks (see host).file (see host_now).file k)))
+          → (IsEnd (ending_status ending) → (Rose (see host).image_faults (see host_now).image_faults → ⊥) → (ending_status ending ≢ 8) × IfSome kept (λ k. NoneFailed k))
+          → (ending_status ending ≡ 8 → Rose (see host).image_faults (see host_now).image_faults)
+          → Works see watch (Run w) host host_now console console_now ending kept
+      run_works w answers start begins refuses orderly files disks sound doubted = record {
+        answers = answer.ran_threads w refl answers;
+        started = start;
+        run = run;
+        orderly = orderly;
+        console_part = part;
+        untouched = silent;
+        files = files;
+        disks = λ end. disks_of w kept (disks end);
+        causes = causes;
+        named = named;
+        complete = λ told can calm. guest_completes calm in_threads w can.0 kept refl (begins can.0 told can.1 (none_refused (see host) (see host_now) (watch console) (watch console_now) calm)) answers;
+        refusal = λ told must calm. guest_refuses calm in_threads w (none_kept kept (refuses must.0 told must.1 must.2)) answers;
         doubted = doubted;
         sound_images = λ end calm. (sound end calm).1;
       }
@@ -302,7 +329,7 @@ module _ {A B I : Type 0} (see : A → HostView) (watch : B → SinkView) (image
       pub replay_works : (w : RunWords) (journal : Word) → ReplayAnswers o w journal ending kept → IfSome kept (λ k. IsStartOf (see host).tells (see host).file w (Some journal) k.start)
           → ((start : Start) → (see host).tells ≡ true → IsStartOf true (see host).file w (Some journal) start → NoneRefused (see host) (see host_now) → StartsAt start ending kept)
           → ((e : Refusal) → (see host).tells ≡ true → StartOf true (see host).file w (Some journal) (Err e) → IsOfFiles e → IsNone kept)
-          → ReadsHost (see host) (see host_now) → Works see watch image (Replay w journal) host host_now console console_now ending kept
+          → ReadsHost (see host) (see host_now) → Works see watch (Replay w journal) host host_now console console_now ending kept
       replay_works w journal answers start begins refuses files = record {
         answers = answer.ran_replay w journal refl answers;
         started = start;
@@ -330,7 +357,7 @@ module _ {A B I : Type 0} (see : A → HostView) (watch : B → SinkView) (image
 abbrev MadeAnswers : ℕ → ℕ → Kept → SinkView → SinkView → Ending → Type 0
 MadeAnswers cpus number k old new ending = make_answer.RunAnswers cpus number k old new ending
 
-module _ {A B I : Type 0} (see : A → HostView) (watch : B → SinkView) (image : I → ImageView) (host : A) (console console_now : B) (ending : Ending) (kept : Option Kept)
+module _ {A B : Type 0} (see : A → HostView) (watch : B → SinkView) (host : A) (console console_now : B) (ending : Ending) (kept : Option Kept)
     (cpus number : ℕ) where
   sink_only : HasMakeCauses (ending_status ending) (watch console) (watch console_now) → HasCauses (ending_status ending) (see host) (see host) (watch console) (watch console_now)
   sink_only c = record {
@@ -384,7 +411,7 @@ module _ {A B I : Type 0} (see : A → HostView) (watch : B → SinkView) (image
   pub make_works : ((see host).tells ≡ true → SinceEarlier (see host).left) → MakeAnswers cpus number (watch console) (watch console_now) ending kept → IfSome kept (λ k. IsMadeFrom cpus number k.start)
       → IfSome kept (λ k. IsRun k) → IfSome kept (λ k. IsOrderly k.start k.journal) → HasMakeCauses (ending_status ending) (watch console) (watch console_now)
       → IfSome kept (λ k. TakesSome (sent_in k ++ total_line cpus number) (watch console) (watch console_now)) → IfNone kept (console_now ≡ console)
-      → Works see watch image (Make cpus number) host host console console_now ending kept
+      → Works see watch (Make cpus number) host host console console_now ending kept
   make_works earlier answers start run orderly causes part silent = record {
     answers = answer.ran_make cpus number refl answers;
     started = start;
@@ -404,7 +431,7 @@ module _ {A B I : Type 0} (see : A → HostView) (watch : B → SinkView) (image
 
 -- ---- what keeps no run
 
-module _ {A B I : Type 0} (see : A → HostView) (watch : B → SinkView) (image : I → ImageView) (host host_now : A) (console console_now : B) (ending : Ending) (kept : Option Kept) (none : kept ≡ None) where
+module _ {A B : Type 0} (see : A → HostView) (watch : B → SinkView) (host host_now : A) (console console_now : B) (ending : Ending) (kept : Option Kept) (none : kept ≡ None) where
   abbrev around : Outside
   around = outside (see host) (see host_now) (watch console) (watch console_now)
 
@@ -416,7 +443,7 @@ module _ {A B I : Type 0} (see : A → HostView) (watch : B → SinkView) (image
       → ((name : List ℕ) → ending ≡ how.Refused (refusal.HostFault name) → IsNamed name (see host_now))
       → ((see host).tells ≡ true → CanDo (see host).file command → NoneRose (see host) (see host_now) (watch console) (watch console_now) → Contains (done_statuses command) (ending_status ending))
       → ((see host).tells ≡ true → MustRefuse (see host).file command → NoneRose (see host) (see host_now) (watch console) (watch console_now) → Contains (3 ∷ 71 ∷ []) (ending_status ending))
-      → Works see watch image command host host_now console console_now ending kept
+      → Works see watch command host host_now console console_now ending kept
   kept_none command plain answers untouched files causes named complete refusal_of = record {
     answers = answers;
     started = nothing _;
@@ -459,7 +486,7 @@ module _ {A B I : Type 0} (see : A → HostView) (watch : B → SinkView) (image
       → ((name : List ℕ) → ending ≡ how.Refused (refusal.HostFault name) → IsNamed name (see host_now)) → ReadsHost (see host) (see host_now)
       → ((plan : Plan) → (see host).tells ≡ true → IsPlanOf true (see host).file config plan → NoneRose (see host) (see host_now) (watch console) (watch console_now) → Contains (0 ∷ 71 ∷ []) (ending_status ending))
       → ((e : Refusal) → (see host).tells ≡ true → PlanOf true (see host).file config (Err e) → IsOfFiles e → IsRefusal ending)
-      → Works see watch image (Show config) host host_now console console_now ending kept
+      → Works see watch (Show config) host host_now console console_now ending kept
   show_works config answers causes named files complete refuses =
       kept_none (Show config) (show_plain config answers) (answer.ran_show config refl none answers) tt files causes named (λ told can calm. complete can.0 told can.1 calm)
       (λ told must calm. show_refuses config causes calm (refuses must.0 told must.1 must.2) answers)
@@ -510,7 +537,7 @@ module _ {A B I : Type 0} (see : A → HostView) (watch : B → SinkView) (image
   untouched_by e = subst (λ (x : Option Kept). IfNone x (console_now ≡ console)) (sym none) e
 
   pub asm_works : (file out : Word) → AsmAnswers (see host) (see host_now) file out ending → HasCauses (ending_status ending) (see host) (see host_now) (watch console) (watch console_now)
-      → WritesFile out (see host) (see host_now) → console_now ≡ console → Works see watch image (Asm file out) host host_now console console_now ending kept
+      → WritesFile out (see host) (see host_now) → console_now ≡ console → Works see watch (Asm file out) host host_now console console_now ending kept
   asm_works file out answers causes files still =
       kept_none (Asm file out) (asm_plain file out answers) (answer.ran_asm file out refl none answers) (untouched_by still) files causes (asm_named file out answers)
       (λ told can calm. asm_completes file out told causes calm can.0 can.1 answers)
@@ -520,13 +547,14 @@ module _ {A B I : Type 0} (see : A → HostView) (watch : B → SinkView) (image
 
 unchanged : (c : Command) → (a : HostView) → (a.tells ≡ true → SinceEarlier a.left) → Changes c a a
 unchanged (Solo w) a earlier = inl (reads_itself a earlier)
+unchanged (Run w) a earlier = inl (reads_itself a earlier)
 unchanged (Asm file out) a earlier = reads_writes a a (λ q. q ≡ out) (reads_itself a earlier)
 unchanged c a earlier = reads_itself a earlier
 
 cannot : (files : List ℕ → Option (List ℕ)) (c : Command) (word : Word) → unbuilt c ≡ Some word → CanDo files c → ⊥
 cannot files (Solo w) word un can = let s : None ≡ Some word = un in cc
 cannot files (Replay w journal) word un can = let s : None ≡ Some word = un in cc
-cannot files (Run w) word un can = can
+cannot files (Run w) word un can = let s : None ≡ Some word = un in cc
 cannot files (Show config) word un can = let s : None ≡ Some word = un in cc
 cannot files (Asm file out) word un can = let s : None ≡ Some word = un in cc
 cannot files (Make cpus number) word un can = let s : None ≡ Some word = un in cc
@@ -539,26 +567,26 @@ still (Show config) kept console = tt
 still c None console = refl
 still c (Some k) console = tt
 
-pub later_works : {A B I : Type 0} (see : A → HostView) (watch : B → SinkView) (image : I → ImageView) (host : A) (console : B) (earlier : (see host).tells ≡ true → SinceEarlier (see host).left)
-    → (c : Command) (word : Word) (ending : Ending) (kept : Option Kept) → unbuilt c ≡ Some word → kept ≡ None → IsLater word ending → Works see watch image c host host console console ending kept
-later_works see watch image host console earlier c word ending kept un none (inl is) =
-    kept_none see watch image host host console console ending kept none c (inr (_, is)) (answer.unbuilt_yet word un none is) (still c kept console) (unchanged c (see host) earlier)
+pub later_works : {A B : Type 0} (see : A → HostView) (watch : B → SinkView) (host : A) (console : B) (earlier : (see host).tells ≡ true → SinceEarlier (see host).left)
+    → (c : Command) (word : Word) (ending : Ending) (kept : Option Kept) → unbuilt c ≡ Some word → kept ≡ None → IsLater word ending → Works see watch c host host console console ending kept
+later_works see watch host console earlier c word ending kept un none (inl is) =
+    kept_none see watch host host console console ending kept none c (inr (_, is)) (answer.unbuilt_yet word un none is) (still c kept console) (unchanged c (see host) earlier)
     (no_causes (ending_status ending) (see host) (watch console) (λ e. omega (arith, sym (ap ending_status is) ∙ e)) (λ e. omega (arith, sym (ap ending_status is) ∙ e)) (λ e. omega (arith, sym (ap ending_status is) ∙ e)))
     (λ name q. absurd (let s : how.Refused (refusal.Bad _ word 0 _) ≡ how.Refused (refusal.HostFault name) = sym is ∙ q in cc))
     (λ told can calm. absurd (cannot (see host).file c word un can))
     (λ told must calm. (0, omega arith, sym (ap ending_status is)))
-later_works see watch image host console earlier c word ending kept un none (inr is) =
-    kept_none see watch image host host console console ending kept none c (inr (_, is)) (answer.spent none is) (still c kept console) (unchanged c (see host) earlier)
+later_works see watch host console earlier c word ending kept un none (inr is) =
+    kept_none see watch host host console console ending kept none c (inr (_, is)) (answer.spent none is) (still c kept console) (unchanged c (see host) earlier)
     (no_causes (ending_status ending) (see host) (watch console) (λ e. omega (arith, sym (ap ending_status is) ∙ e)) (λ e. omega (arith, sym (ap ending_status is) ∙ e)) (λ e. omega (arith, sym (ap ending_status is) ∙ e)))
     (λ name q. absurd (let s : how.Refused refusal.Memory ≡ how.Refused (refusal.HostFault name) = sym is ∙ q in cc))
     (λ told can calm. absurd (cannot (see host).file c word un can))
     (λ told must calm. (1, omega arith, sym (ap ending_status is)))
 
 -- memory is out before anything was done
-pub spent_works : {A B I : Type 0} (see : A → HostView) (watch : B → SinkView) (image : I → ImageView) (host : A) (console : B) (earlier : (see host).tells ≡ true → SinceEarlier (see host).left)
-    → (c : Command) → Works see watch image c host host console console (how.Refused refusal.Memory) None
-spent_works see watch image host console earlier c =
-    kept_none see watch image host host console console (how.Refused refusal.Memory) None refl c (inr (refusal.Memory, refl)) (answer.spent refl refl) (still c None console) (unchanged c (see host) earlier)
+pub spent_works : {A B : Type 0} (see : A → HostView) (watch : B → SinkView) (host : A) (console : B) (earlier : (see host).tells ≡ true → SinceEarlier (see host).left)
+    → (c : Command) → Works see watch c host host console console (how.Refused refusal.Memory) None
+spent_works see watch host console earlier c =
+    kept_none see watch host host console console (how.Refused refusal.Memory) None refl c (inr (refusal.Memory, refl)) (answer.spent refl refl) (still c None console) (unchanged c (see host) earlier)
     (no_causes 71 (see host) (watch console) (λ e. omega (arith, e)) (λ e. omega (arith, e)) (λ e. omega (arith, e)))
     (λ name q. absurd (let s : how.Refused refusal.Memory ≡ how.Refused (refusal.HostFault name) = q in cc))
     (λ told can calm. spent_done c)

@@ -3,7 +3,7 @@ use Rattle.std.specs.Prelude.{option_map}
 use Rattle.std.proofs.Common.{◌≡◌, ◌≢◌, ◌⊎◌, inl, inr, ℕ, zero, suc, Bool, true, false, List, Option, Some, None, Contains, refl, sym, subst, ◌∙◌, ap, arith}
 use Rattle.vm_cmd.specs.Word.{Word}
 use Rattle.vm_cmd.specs.declared.command.Command.{Command}
-use Rattle.vm_cmd.specs.declared.command.Command.TheVariants.{Solo, Replay, Make}
+use Rattle.vm_cmd.specs.declared.command.Command.TheVariants.{Run, Solo, Replay, Make}
 use Rattle.vm_cmd.specs.declared.command.RunWords.{RunWords}
 use Rattle.vm_host.specs.Leaves.{Takes}
 use Rattle.vm_law.specs.declared.journal.Signed.{Signed}
@@ -21,7 +21,7 @@ use Rattle.vm_run.specs.Answer as answer
 use Rattle.vm_run.specs.Answer.{Answers, HasStatus, IsClosedBy, JournalOf, NoStart, IsUnstartedBy, TakesAll, status_of_run, statuses}
 use Rattle.vm_run.specs.Words.{unbuilt}
 use Rattle.vm_soloing.specs.Answers as guest_answer
-use Rattle.vm_soloing.specs.Answers.{GuestAnswers, RunAnswers, Way, by_rounds}
+use Rattle.vm_soloing.specs.Answers.{GuestAnswers, RunAnswers, Way, by_rounds, in_threads}
 use Rattle.vm_state.specs.declared.run_state.Why.{Why}
 use Rattle.vm_state.specs.declared.run_state.Why.TheVariants as why
 use Rattle.vm_status.specs.Lines.{status_of}
@@ -98,6 +98,10 @@ module _ (o : Outside) (before : Ending) where
   guest_facts way w kept k is (guest_answer.began j at h) = same_kept (Facts (Solo w) o before) kept j k at is (run_facts way w j h)
   guest_facts way w kept k is (guest_answer.spent e) = refused_facts w k _ e (λ ne. absurd (ne (ap ending_status e)))
 
+  -- they are the same on threads
+  run_on : (w : RunWords) (k : Kept) → Facts (Solo w) o before k → Facts (Run w) o before k
+  run_on w k f = record { closed = f.closed; all = f.all; journal = f.journal; status = f.status }
+
   replay_refused : (w : RunWords) (journal : Word) (k : Kept) (r : Refusal) → before ≡ how.Refused r → Facts (Replay w journal) o before k
   replay_refused w journal k r e = record { closed = tt; all = λ h. absurd (refused_no_end before r e h); journal = λ h. tt; status = λ h. absurd (refused_no_end before r e h) }
 
@@ -170,6 +174,7 @@ module _ (o : Outside) (before : Ending) where
 
   pub facts_of : (command : Command) (kept : Option Kept) (k : Kept) → kept ≡ Some k → Answers command o before kept → Facts command o before k
   facts_of command kept k is (answer.ran_solo w e h) = subst (λ (c : Command). Facts c o before k) (sym e) (guest_facts by_rounds w kept k is h)
+  facts_of command kept k is (answer.ran_threads w e h) = subst (λ (c : Command). Facts c o before k) (sym e) (run_on w k (guest_facts in_threads w kept k is h))
   facts_of command kept k is (answer.ran_replay w journal e h) = subst (λ (c : Command). Facts c o before k) (sym e) (replay_facts w journal kept k is h)
   facts_of command kept k is (answer.ran_show config e none h) = nothing_kept command kept k is none
   facts_of command kept k is (answer.ran_asm file out e none h) = nothing_kept command kept k is none
@@ -179,12 +184,14 @@ module _ (o : Outside) (before : Ending) where
 
   -- ---- where nothing is kept
 
+  guest_unkept : (way : Way) (w : RunWords) → GuestAnswers way o w before None → NoStart o.host w w.journal before
+  guest_unkept way w (guest_answer.unstarted r none start e) = inr (r, start, e)
+  guest_unkept way w (guest_answer.began j at h) = absurd (let s : None ≡ Some j = at in cc)
+  guest_unkept way w (guest_answer.spent e) = inl (ap ending_status e)
+
   pub unkept : (command : Command) → Answers command o before None → IsUnstartedBy o.host command before
-  unkept command (answer.ran_solo w e h) = subst (λ (c : Command). IsUnstartedBy o.host c before) (sym e) (guest_unkept by_rounds w h) where
-    guest_unkept : (way : Way) (w : RunWords) → GuestAnswers way o w before None → NoStart o.host w w.journal before
-    guest_unkept way w (guest_answer.unstarted r none start e) = inr (r, start, e)
-    guest_unkept way w (guest_answer.began j at h) = absurd (let s : None ≡ Some j = at in cc)
-    guest_unkept way w (guest_answer.spent e) = inl (ap ending_status e)
+  unkept command (answer.ran_solo w e h) = subst (λ (c : Command). IsUnstartedBy o.host c before) (sym e) (guest_unkept by_rounds w h)
+  unkept command (answer.ran_threads w e h) = subst (λ (c : Command). IsUnstartedBy o.host c before) (sym e) (guest_unkept in_threads w h)
   unkept command (answer.ran_replay w journal e h) = subst (λ (c : Command). IsUnstartedBy o.host c before) (sym e) (replay_unkept w journal h) where
     history_unkept : (w : RunWords) (journal : Word) (history : List Signed) → HistoryAnswers o.console o.console_now journal history before None → NoStart o.host w (Some journal) before
     history_unkept w journal history (replay_answer.replayed j at same wrote e) = absurd (let s : None ≡ Some j = at in cc)
@@ -211,12 +218,14 @@ module _ (o : Outside) (before : Ending) where
   unkept command (answer.unbuilt_yet word un none e) = later command word un where
     later : (command : Command) (word : Word) → unbuilt command ≡ Some word → IsUnstartedBy o.host command before
     later (Solo w) word un = absurd (let s : None ≡ Some word = un in cc)
+    later (Run w) word un = absurd (let s : None ≡ Some word = un in cc)
     later (Replay w journal) word un = absurd (let s : None ≡ Some word = un in cc)
     later (Make cpus number) word un = absurd (let s : None ≡ Some word = un in cc)
     later c word un = tt
   unkept command (answer.spent none e) = spent command (ap ending_status e) where
     spent : (command : Command) → ending_status before ≡ 71 → IsUnstartedBy o.host command before
     spent (Solo w) e = inl e
+    spent (Run w) e = inl e
     spent (Replay w journal) e = inl e
     spent (Make cpus number) e = e
     spent c e = tt

@@ -24,7 +24,7 @@ use Rattle.vm_run.specs.Showing.{ShowAnswers}
 use Rattle.vm_run.proofs.Facts.{end_known}
 use Rattle.vm_replaying.proofs.Starts.{plan_of_files, start_of_files}
 use Rattle.vm_soloing.specs.Answers as guest_answer
-use Rattle.vm_soloing.specs.Answers.{GuestAnswers, RunAnswers, Way, by_rounds}
+use Rattle.vm_soloing.specs.Answers.{GuestAnswers, RunAnswers, Way, by_rounds, in_threads}
 use Rattle.vm_state.specs.declared.run_state.Why.{Why}
 use Rattle.vm_state.specs.declared.run_state.Why.TheVariants as why
 use Rattle.vm_status.specs.Lines.{status_of}
@@ -33,7 +33,7 @@ use Rattle.vm_status.specs.declared.refusal.Refusal.{Refusal}
 pub spent_done : (c : Command) → Contains (done_statuses c) 71
 spent_done (Solo w) = (4, omega arith, refl)
 spent_done (Replay w journal) = (1, omega arith, refl)
-spent_done (Run w) = (1, omega arith, refl)
+spent_done (Run w) = (4, omega arith, refl)
 spent_done (Show config) = (1, omega arith, refl)
 spent_done (Asm file out) = (1, omega arith, refl)
 spent_done (Make cpus number) = (3, omega arith, refl)
@@ -150,6 +150,7 @@ module _ (o : Outside) (before : Ending) where
 
   known_in : (command : Command) (kept : Option Kept) → Answers command o before kept → IsKnown before
   known_in command kept (answer.ran_solo w e h) = guest_known by_rounds w kept h
+  known_in command kept (answer.ran_threads w e h) = guest_known in_threads w kept h
   known_in command kept (answer.ran_replay w journal e h) = replay_known w journal kept h
   known_in command kept (answer.ran_show config e none h) = show_known config h
   known_in command kept (answer.ran_asm file out e none h) = asm_known file out h

@@ -112,7 +112,7 @@ inspect_row words c e =
 pub limits : (words : List Word) (c : Command) → command_of words ≡ Some c → HasLimit c
 limits [] c e = absurd cc
 limits (name ∷ words) c e =
-    chosen (HasLimit c) (bytes_eq name (codes "run")) _ _ c (run_row Run (λ w h. tt) words c)
+    chosen (HasLimit c) (bytes_eq name (codes "run")) _ _ c (run_row Run (λ w h. h) words c)
     (chosen (HasLimit c) (bytes_eq name (codes "solo")) _ _ c (run_row Solo (λ w h. h) words c)
     (chosen (HasLimit c) (bytes_eq name (codes "replay")) _ _ c (replay_row words c)
     (chosen (HasLimit c) (bytes_eq name (codes "show")) _ _ c (show_row words c)

@@ -4,7 +4,7 @@ use Rattle.vm_cmd.specs.declared.command.Command.{Command}
 use Rattle.vm_cmd.specs.declared.command.CmdError.{CmdError}
 use Rattle.vm_cmd.specs.declared.command.CmdError.TheVariants as words
 use Rattle.vm_host.specs.Crash.{SinceEarlier}
-use Rattle.vm_host.specs.Views.{HostView, ImageView, SinkView}
+use Rattle.vm_host.specs.Views.{HostView, SinkView}
 use Rattle.vm_outcome.specs.declared.outcome.Ending.{Ending}
 use Rattle.vm_outcome.specs.declared.outcome.Ending.TheVariants as how
 use Rattle.vm_outcome.specs.declared.outcome.Kept.{Kept}
@@ -60,9 +60,9 @@ module _ {L : Type 0} (r : Refusal) (before ending : Ending) (kept : Option Kept
 
 -- ---- memory was out before the command was known
 
-pub spent_does : {A B L I : Type 0} (see : A → HostView) (watch : B → SinkView) (heed : L → SinkView) (image : I → ImageView) (host : A) (console : B) (log log_now : L)
+pub spent_does : {A B L : Type 0} (see : A → HostView) (watch : B → SinkView) (heed : L → SinkView) (host : A) (console : B) (log log_now : L)
     (earlier : (see host).tells ≡ true → SinceEarlier (see host).left) (command : Command) (ending : Ending) → (ending ≡ how.Refused Memory) × TakesLine (line_of Memory) (heed log) (heed log_now)
-    → Does see watch heed image command host host console console log log_now ending None
-spent_does see watch heed image host console log log_now earlier command ending (e, line) =
-    told_does see watch heed image command host host console console log log_now (how.Refused Memory) None (spent_works see watch image host console earlier command) ending
+    → Does see watch heed command host host console console log log_now ending None
+spent_does see watch heed host console log log_now earlier command ending (e, line) =
+    told_does see watch heed command host host console console log log_now (how.Refused Memory) None (spent_works see watch host console earlier command) ending
     (telling.refused Memory refl e line)

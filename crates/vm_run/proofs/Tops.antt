@@ -1,10 +1,10 @@
 -- From what the work of a command does, and what the log is told, to what the command does.
 use Rattle.std.proofs.Common.{◌≡◌, ◌≢◌, ◌⊎◌, inl, inr, ℕ, zero, suc, List, [], ◌∷◌, Option, Some, None, IfSome, IfNone, Contains, refl, sym, subst, ◌∙◌, ap, arith}
 use Rattle.vm_cmd.specs.declared.command.Command.{Command}
-use Rattle.vm_cmd.specs.declared.command.Command.TheVariants.{Solo, Make}
+use Rattle.vm_cmd.specs.declared.command.Command.TheVariants.{Run, Solo, Make}
 use Rattle.vm_host.specs.Counts.{Rose}
 use Rattle.vm_host.specs.Leaves.{LeavesSink, Takes}
-use Rattle.vm_host.specs.Views.{HostView, ImageView, SinkView}
+use Rattle.vm_host.specs.Views.{HostView, SinkView}
 use Rattle.vm_laws.specs.Laws.{Laws}
 use Rattle.vm_laws.proofs.Laws.{laws_hold}
 use Rattle.vm_outcome.specs.declared.outcome.Ending.{Ending}
@@ -29,9 +29,9 @@ not_refused_and_done n (zero, l, e) h = no_end_of (Bad roles.Start [] 0 Later) (
 not_refused_and_done n (suc zero, l, e) h = no_end_of Memory (subst IsEnd (sym e) h)
 not_refused_and_done n (suc (suc k), l, e) h = omega (arith, l)
 
-module _ {A B L I : Type 0} (see : A → HostView) (watch : B → SinkView) (heed : L → SinkView) (image : I → ImageView) (command : Command)
+module _ {A B L : Type 0} (see : A → HostView) (watch : B → SinkView) (heed : L → SinkView) (command : Command)
     (host host_now : A) (console console_now : B) (log log_now : L) (before : Ending) (kept : Option Kept)
-    (w : Works see watch image command host host_now console console_now before kept) where
+    (w : Works see watch command host host_now console console_now before kept) where
   abbrev o : Outside
   o = outside (see host) (see host_now) (watch console) (watch console_now)
 
@@ -51,7 +51,7 @@ module _ {A B L I : Type 0} (see : A → HostView) (watch : B → SinkView) (hee
   -- it ends as its work ended
   module _ (told : Tells before (reported command kept) (asks_state command) before log log_now (heed log) (heed log_now))
       (report : IsEnd (ending_status before) → IfSome kept (λ k. TakesReport command k (heed log) (heed log_now))) where
-    same_does : Does see watch heed image command host host_now console console_now log log_now before kept
+    same_does : Does see watch heed command host host_now console console_now log log_now before kept
     same_does = record {
       before = before;
       answers = w.answers;
@@ -106,12 +106,13 @@ module _ {A B L I : Type 0} (see : A → HostView) (watch : B → SinkView) (hee
 
     closed_now : (c : Command) (m : ℕ) (j : Kept) → IsClosedBy c (ending_status before) j → IsClosedBy c m j
     closed_now (Solo x) m j h = λ ne. elim (h not_spent) [ inl closed ↦ inl closed | inr six ↦ absurd (not_six six.0) ]
+    closed_now (Run x) m j h = λ ne. elim (h not_spent) [ inl closed ↦ inl closed | inr six ↦ absurd (not_six six.0) ]
     closed_now (Make cpus number) m j h = λ ne. h not_spent
     closed_now c m j h = tt
 
     worse_does : (IsEnd n → ⊥) → (n ≢ 6) → (n ≢ 7) → (n ≢ 8) → (n ≡ 9 → Rose (heed log).faults (heed log_now).faults) → Contains statuses n
         → (Rose (heed log).faults (heed log_now).faults ⊎ (n ≡ 71)) → ((name : List ℕ) → ending ≡ how.Refused (HostFault name) → ⊥)
-        → Does see watch heed image command host host_now console console_now log log_now ending kept
+        → Does see watch heed command host host_now console console_now log log_now ending kept
     worse_does no_end six seven eight nine there spent unnamed = record {
       before = before;
       answers = w.answers;
@@ -166,9 +167,9 @@ module _ {A B L I : Type 0} (see : A → HostView) (watch : B → SinkView) (hee
   no_report c k is none still = absurd (let s : Some k ≡ None = sym is ∙ none in cc)
 
   run_told : (ending : Ending) (k : Kept) → reported command kept ≡ Some k → (IsRefusal before → ⊥) → TellsRun before k (asks_state command) ending (heed log) (heed log_now)
-      → Does see watch heed image command host host_now console console_now log log_now ending kept
+      → Does see watch heed command host host_now console console_now log log_now ending kept
   run_told ending k is fine (telling.told e takes same) =
-      subst (λ (x : Ending). Does see watch heed image command host host_now console console_now log log_now x kept) (sym e)
+      subst (λ (x : Ending). Does see watch heed command host host_now console console_now log log_now x kept) (sym e)
       (same_does (telling.ran k is fine (telling.told refl takes same)) (λ end. all_some _ kept (λ j at. one j at)))
     where
       one : (j : Kept) → kept ≡ Some j → TakesReport command j (heed log) (heed log_now)
@@ -185,11 +186,11 @@ module _ {A B L I : Type 0} (see : A → HostView) (watch : B → SinkView) (hee
       (λ name f. let bad : how.Refused Memory ≡ how.Refused (HostFault name) = sym e ∙ f in cc)
 
   pub told_does : (ending : Ending) → Tells before (reported command kept) (asks_state command) ending log log_now (heed log) (heed log_now)
-      → Does see watch heed image command host host_now console console_now log log_now ending kept
+      → Does see watch heed command host host_now console console_now log log_now ending kept
   told_does ending (telling.refused r is e line) =
-      subst (λ (x : Ending). Does see watch heed image command host host_now console console_now log log_now x kept) (sym e)
+      subst (λ (x : Ending). Does see watch heed command host host_now console console_now log log_now x kept) (sym e)
       (same_does (telling.refused r is refl line) (λ end. absurd (refused_no_end before r is end)))
   told_does ending (telling.ran k is fine h) = run_told ending k is fine h
   told_does ending (telling.silent none fine e quiet) =
-      subst (λ (x : Ending). Does see watch heed image command host host_now console console_now log log_now x kept) (sym e)
+      subst (λ (x : Ending). Does see watch heed command host host_now console console_now log log_now x kept) (sym e)
       (same_does (telling.silent none fine refl quiet) (λ end. all_some _ kept (λ k at. no_report command k at none quiet)))

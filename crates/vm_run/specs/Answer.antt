@@ -3,10 +3,10 @@ use Rattle.std.specs.Prelude.{◌≡◌, ◌≢◌, ◌⊎◌, ◌<◌, ℕ, zer
 use Rattle.vm_host.specs.Counts.{Rose}
 use Rattle.vm_host.specs.Told.{WhereTold}
 use Rattle.vm_host.specs.Leaves.{LeavesSink, ReadsHost, WritesFile, Takes, TakesSome}
-use Rattle.vm_host.specs.Views.{HostView, ImageView, SinkView}
+use Rattle.vm_host.specs.Views.{HostView, SinkView}
 use Rattle.vm_cmd.specs.Word.{Word}
 use Rattle.vm_cmd.specs.declared.command.Command.{Command}
-use Rattle.vm_cmd.specs.declared.command.Command.TheVariants.{Solo, Replay, Show, Asm, Make}
+use Rattle.vm_cmd.specs.declared.command.Command.TheVariants.{Run, Solo, Replay, Show, Asm, Make}
 use Rattle.vm_cmd.specs.declared.command.RunWords.{RunWords}
 use Rattle.vm_law.specs.declared.image.FlatImage.{FlatImage}
 use Rattle.vm_law.specs.declared.journal.Signed.{Signed}
@@ -29,8 +29,8 @@ use Rattle.vm_assembling.specs.Assembling.{IsAssembly}
 use Rattle.vm_outcome.specs.Files.{IsFileOf, IsRefused}
 use Rattle.vm_run.specs.Showing.{ShowAnswers}
 use Rattle.vm_run.specs.Words.{asks_state, unbuilt}
-use Rattle.vm_soloing.specs.Answers.{GuestAnswers, IsSaved, by_rounds}
-use Rattle.vm_soloing.specs.Disks.{AllTell, ChangesOwn, HoldDisks}
+use Rattle.vm_soloing.specs.Answers.{GuestAnswers, IsSaved, by_rounds, in_threads}
+use Rattle.vm_soloing.specs.Disks.{ChangesOwn, HoldDisks}
 use Rattle.vm_soloing.specs.Keeping.{NoneFailed}
 use Rattle.vm_start.specs.Start.{StartOf, IsStartOf, PlanOf, IsPlanOf}
 use Rattle.vm_state.specs.declared.start.Start.{Start}
@@ -45,6 +45,7 @@ use Rattle.vm_table.specs.Turns.{IsOrderly}
 
 pub data Answers (command : Command) (o : Outside) (ending : Ending) (kept : Option Kept) : Type 0 where
   ran_solo : (w : RunWords) → command ≡ Solo w → GuestAnswers by_rounds o w ending kept → Answers command o ending kept
+  ran_threads : (w : RunWords) → command ≡ Run w → GuestAnswers in_threads o w ending kept → Answers command o ending kept
   ran_replay : (w : RunWords) (journal : Word) → command ≡ Replay w journal → ReplayAnswers o w journal ending kept → Answers command o ending kept
   ran_show : (config : Word) → command ≡ Show config → kept ≡ None → ShowAnswers o config ending → Answers command o ending kept
   ran_asm : (file out : Word) → command ≡ Asm file out → kept ≡ None → AsmAnswers o.host o.host_now file out ending → Answers command o ending kept
@@ -60,6 +61,7 @@ pub data Answers (command : Command) (o : Outside) (ending : Ending) (kept : Opt
 -- other command keeps a run
 abbrev pub IsStartedBy : HostView → Command → Kept → Type 0
 IsStartedBy host (Solo w) k = IsStartOf host.tells host.file w w.journal k.start
+IsStartedBy host (Run w) k = IsStartOf host.tells host.file w w.journal k.start
 IsStartedBy host (Replay w journal) k = IsStartOf host.tells host.file w (Some journal) k.start
 IsStartedBy host (Make cpus number) k = IsMadeFrom cpus number k.start
 IsStartedBy host other k = ⊥
@@ -70,19 +72,22 @@ NoStart host w journal ending = (ending_status ending ≡ 71) ⊎ ((refusal : Re
 
 abbrev pub IsUnstartedBy : HostView → Command → Ending → Type 0
 IsUnstartedBy host (Solo w) ending = NoStart host w w.journal ending
+IsUnstartedBy host (Run w) ending = NoStart host w w.journal ending
 IsUnstartedBy host (Replay w journal) ending = NoStart host w (Some journal) ending
 IsUnstartedBy host (Make cpus number) ending = ending_status ending ≡ 71
 IsUnstartedBy host other ending = Unit {0}
 
--- a history of `solo` and of `make` is what passes add in orderly turns
+-- a history of `solo`, `run` and `make` is what passes add in orderly turns
 abbrev pub IsOrderlyOf : Command → Kept → Type 0
 IsOrderlyOf (Solo w) k = IsOrderly k.start k.journal
+IsOrderlyOf (Run w) k = IsOrderly k.start k.journal
 IsOrderlyOf (Make cpus number) k = IsOrderly k.start k.journal
 IsOrderlyOf other k = Unit {0}
 
 -- and it is closed, unless memory ran out or a disk's file couldn't be opened
 abbrev pub IsClosedBy : Command → ℕ → Kept → Type 0
 IsClosedBy (Solo w) status k = status ≢ 71 → (is_closed k.start k.journal ≡ true) ⊎ ((status ≡ 6) × (k.journal ≡ []))
+IsClosedBy (Run w) status k = status ≢ 71 → (is_closed k.start k.journal ≡ true) ⊎ ((status ≡ 6) × (k.journal ≡ []))
 IsClosedBy (Make cpus number) status k = status ≢ 71 → is_closed k.start k.journal ≡ true
 IsClosedBy other status k = Unit {0}
 
@@ -116,22 +121,26 @@ TakesReport other k old new = Takes (report_of k (asks_state other)) old new
 -- what may change among the files
 abbrev pub Changes : Command → HostView → HostView → Type 0
 Changes (Solo w) old new = ChangesOwn w old new
+Changes (Run w) old new = ChangesOwn w old new
 Changes (Asm file out) old new = WritesFile out old new
 Changes other old new = ReadsHost old new
 
--- a run that ended so left each disk's file as its history has the disk, where the host's files and images tell their bytes
-abbrev pub DisksOf : {I : Type 0} → (I → ImageView) → Command → HostView → HostView → Kept → Type 0
-DisksOf seen (Solo w) old new k = AllTell seen → WhereTold old.tells (HoldDisks old.file new.file k)
-DisksOf seen other old new k = Unit {0}
+-- a run that ended so left each disk's file as its history has the disk, where the host's files tell their bytes
+abbrev pub DisksOf : Command → HostView → HostView → Kept → Type 0
+DisksOf (Solo w) old new k = WhereTold old.tells (HoldDisks old.file new.file k)
+DisksOf (Run w) old new k = WhereTold old.tells (HoldDisks old.file new.file k)
+DisksOf other old new k = Unit {0}
 
 -- and its journal in its file
 abbrev pub JournalOf : Command → HostView → HostView → Kept → Type 0
 JournalOf (Solo w) old new k = IsSaved old new w.journal k.journal
+JournalOf (Run w) old new k = IsSaved old new w.journal k.journal
 JournalOf other old new k = Unit {0}
 
 -- and where no image of the host came back with a failure, no call of one failed
 abbrev pub NoneFailedOf : Command → Kept → Type 0
 NoneFailedOf (Solo w) k = NoneFailed k
+NoneFailedOf (Run w) k = NoneFailed k
 NoneFailedOf other k = Unit {0}
 
 -- ---- statuses
@@ -142,6 +151,7 @@ status_of_run k = option_map (λ why. why_status why (has_doubt (last_state k.st
 
 abbrev pub HasStatus : Command → ℕ → Kept → Type 0
 HasStatus (Solo w) status k = status_of_run k ≡ Some status
+HasStatus (Run w) status k = status_of_run k ≡ Some status
 HasStatus (Make cpus number) status k = status_of_run k ≡ Some status
 HasStatus other status k = status ≡ 0
 
@@ -165,6 +175,7 @@ statuses = 0 ∷ 3 ∷ 4 ∷ 5 ∷ 6 ∷ 7 ∷ 8 ∷ 9 ∷ 71 ∷ []
 -- the files give what the command asks for
 abbrev pub CanDo : (List ℕ → Option (List ℕ)) → Command → Type 0
 CanDo files (Solo w) = (start : Start) × IsStartOf true files w w.journal start
+CanDo files (Run w) = (start : Start) × IsStartOf true files w w.journal start
 CanDo files (Replay w journal) =
     (start : Start) × (history : List Signed) × IsStartOf true files w (Some journal) start × IsFileOf true (files journal) IsJournal history × IsLegal start history
 CanDo files (Show config) = (plan : Plan) × IsPlanOf true files config plan
@@ -175,6 +186,7 @@ CanDo files other = ⊥
 -- the statuses of what can be done, where nothing outside refuses
 abbrev pub done_statuses : Command → List ℕ
 done_statuses (Solo w) = 0 ∷ 4 ∷ 5 ∷ 8 ∷ 71 ∷ []
+done_statuses (Run w) = 0 ∷ 4 ∷ 5 ∷ 8 ∷ 71 ∷ []
 done_statuses (Make cpus number) = 0 ∷ 4 ∷ 5 ∷ 71 ∷ []
 done_statuses other = 0 ∷ 71 ∷ []
 
@@ -185,6 +197,7 @@ IsOfFiles e = (name : List ℕ) → e ≡ HostFault name → ⊥
 -- the files don't give what the command asks for
 abbrev pub MustRefuse : (List ℕ → Option (List ℕ)) → Command → Type 0
 MustRefuse files (Solo w) = (e : Refusal) × StartOf true files w w.journal (Err e) × IsOfFiles e
+MustRefuse files (Run w) = (e : Refusal) × StartOf true files w w.journal (Err e) × IsOfFiles e
 MustRefuse files (Replay w journal) =
     ((e : Refusal) × StartOf true files w (Some journal) (Err e) × IsOfFiles e)
     ⊎ ((start : Start) × IsStartOf true files w (Some journal) start
@@ -196,8 +209,8 @@ MustRefuse files other = Unit {0}
 
 -- ---- the whole
 
--- `see`, `watch` and `image` are how a host, a console or a log, and a host's images are seen.
-pub record Does {A B L I : Type 0} (see : A → HostView) (watch : B → SinkView) (heed : L → SinkView) (image : I → ImageView) (command : Command)
+-- `see` and `watch` are how a host, and a console or a log, are seen.
+pub record Does {A B L : Type 0} (see : A → HostView) (watch : B → SinkView) (heed : L → SinkView) (command : Command)
     (host host_now : A) (console console_now : B) (log log_now : L) (ending : Ending) (kept : Option Kept) : Type 0 where
   -- how its work ended, each refusal with its file, its place and its kind, and what was then said of it to the log: the line
   -- of a refusal, or the report
@@ -217,7 +230,7 @@ pub record Does {A B L I : Type 0} (see : A → HostView) (watch : B → SinkVie
   pub untouched : Untouched command kept console console_now
   -- only files of the command change; where a run was done disks and journal follow its history
   pub files : Changes command (see host) (see host_now)
-  pub disks : IsEnd (ending_status ending) → IfSome kept (λ k. DisksOf image command (see host) (see host_now) k)
+  pub disks : IsEnd (ending_status ending) → IfSome kept (λ k. DisksOf command (see host) (see host_now) k)
   pub journal : IsEnd (ending_status ending) → IfSome kept (λ k. JournalOf command (see host) (see host_now) k)
   -- the status is the run's, and the log took its report and nothing else; that of `make` has none
   pub known : Contains statuses (ending_status ending)

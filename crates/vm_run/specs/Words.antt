@@ -14,7 +14,7 @@ use Rattle.vm_status.specs.declared.role.Role.TheVariants as roles
 abbrev pub unbuilt : Command → Option Word
 unbuilt (Solo w) = None
 unbuilt (Replay w journal) = None
-unbuilt (Run w) = Some (codes "run")
+unbuilt (Run w) = None
 unbuilt (Show config) = None
 unbuilt (Asm file out) = None
 unbuilt (Make cpus number) = None
@@ -29,6 +29,7 @@ IsLater word ending = (ending ≡ Refused (Bad roles.Start word 0 kinds.Later)) 
 -- the report is to tell the state of each vCPU
 abbrev pub asks_state : Command → Bool
 asks_state (Solo w) = w.state
+asks_state (Run w) = w.state
 asks_state (Replay w journal) = w.state
 asks_state other = false
 
@@ -44,6 +45,12 @@ pub record IsCount (cpus : ℕ) : Type 0 where
 
 abbrev pub HasLimit : Command → Type 0
 HasLimit (Solo w) = IsWithin w
+HasLimit (Run w) = IsWithin w
 HasLimit (Replay w journal) = IsWithin w
 HasLimit (Make cpus number) = IsCount cpus
 HasLimit other = Unit {0}
+
+-- it starts no thread: it is any command but `run`
+abbrev pub IsStill : Command → Type 0
+IsStill (Run w) = ⊥
+IsStill other = Unit {0}

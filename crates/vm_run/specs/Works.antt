@@ -3,7 +3,7 @@ use Rattle.std.specs.Prelude.{◌≡◌, ℕ, List, [], ◌∷◌, Option, IfSom
 use Rattle.vm_host.specs.Counts.{Rose}
 use Rattle.vm_host.specs.Told.{WhereTold}
 use Rattle.vm_host.specs.Leaves.{TakesSome}
-use Rattle.vm_host.specs.Views.{HostView, ImageView, SinkView}
+use Rattle.vm_host.specs.Views.{HostView, SinkView}
 use Rattle.vm_cmd.specs.declared.command.Command.{Command}
 use Rattle.vm_outcome.specs.declared.outcome.Ending.{Ending}
 use Rattle.vm_outcome.specs.declared.outcome.Ending.TheVariants.{Refused}
@@ -15,7 +15,7 @@ use Rattle.vm_outcome.specs.Telling.{IsRun}
 use Rattle.vm_run.specs.Answer.{Answers, Changes, CanDo, DisksOf, IsOrderlyOf, IsStartedBy, MustRefuse, NoneFailedOf, Untouched, done_statuses, sent_by}
 use Rattle.vm_status.specs.declared.refusal.Refusal.TheVariants.{HostFault}
 
-pub record Works {A B I : Type 0} (see : A → HostView) (watch : B → SinkView) (image : I → ImageView) (command : Command)
+pub record Works {A B : Type 0} (see : A → HostView) (watch : B → SinkView) (command : Command)
     (host host_now : A) (console console_now : B) (ending : Ending) (kept : Option Kept) : Type 0 where
   pub answers : Answers command (outside (see host) (see host_now) (watch console) (watch console_now)) ending kept
   pub started : IfSome kept (λ k. IsStartedBy (see host) command k)
@@ -24,7 +24,7 @@ pub record Works {A B I : Type 0} (see : A → HostView) (watch : B → SinkView
   pub console_part : IfSome kept (λ k. TakesSome (sent_by command k) (watch console) (watch console_now))
   pub untouched : Untouched command kept console console_now
   pub files : Changes command (see host) (see host_now)
-  pub disks : IsEnd (ending_status ending) → IfSome kept (λ k. DisksOf image command (see host) (see host_now) k)
+  pub disks : IsEnd (ending_status ending) → IfSome kept (λ k. DisksOf command (see host) (see host_now) k)
   pub causes : HasCauses (ending_status ending) (see host) (see host_now) (watch console) (watch console_now)
   pub named : (name : List ℕ) → ending ≡ Refused (HostFault name) → IsNamed name (see host_now)
   pub complete : WhereTold (see host).tells (CanDo (see host).file command → NoneRose (see host) (see host_now) (watch console) (watch console_now)

@@ -1,6 +1,6 @@
 //! The work of each command.
 ghost use Rattle.vm_run.specs.Answer.{reported};
-ghost use Rattle.vm_run.specs.Words.{HasLimit, asks_state};
+ghost use Rattle.vm_run.specs.Words.{HasLimit, IsStill, asks_state};
 ghost use Rattle.vm_run.specs.Works.{Works};
 ghost use Rattle.std.specs.Prelude.{◌≡◌, None, Option, true, false};
 ghost use Rattle.vm_outcome.specs.declared.outcome.Kept.{Kept as KeptValue};
@@ -8,6 +8,8 @@ ghost use Rattle.vm_outcome.specs.declared.outcome.Kept.{Kept as KeptValue};
 use crate::showing::show;
 use crate::unbuilt::later;
 use std::alloc::Global;
+use std::sync::Wait;
+use std::thread::Threads;
 use vm_assembling::asm;
 use vm_cmd::Command;
 use vm_host::{Gate, Host, Sink};
@@ -15,28 +17,53 @@ use vm_making::make;
 use vm_outcome::Finish;
 use vm_replaying::replay;
 use vm_soloing::solo;
+use vm_threading::run;
 
-/// Does what a command says. What isn't built yet is refused before anything is read.
-pub(crate) fn carry_out<H: Host, S: Sink, G: Gate>(
+/// Does what a command other than `run` says, on the calling thread. What isn't built yet is refused before anything is read.
+pub(crate) fn carry_out_still<H: Host, S: Sink, G: Gate>(
     alloc: Global,
     command: &Command,
     host: &mut H,
     console: &mut S,
     gate: &G,
 ) -> Finish
-    requires { HasLimit command.now }
-    ensures { Works H.seen S.seen H.Image.seen command.now host.old host.new console.old console.new result.ending result.kept }
+    requires limit { HasLimit command.now }
+    requires still { IsStill command.now }
+    ensures { Works H.seen S.seen command.now host.old host.new console.old console.new result.ending result.kept }
 {
     match command {
         Command::Solo(words) => solo(alloc, words, host, console, gate),
         Command::Replay(words, journal) => replay(alloc, words, journal, host, console),
         Command::Show(config) => show(alloc, config.as_str(), host, console),
         Command::Asm(file, out) => asm(alloc, file.as_str(), out.as_str(), host),
-        Command::Run(_) => later(alloc, "run"),
+        Command::Run(_) => unreachable!(),
         Command::Make { cpus, number } => make(alloc, *cpus, *number, console, gate),
         Command::Convert(_, _) => later(alloc, "convert"),
         Command::Arrive(_, _) => later(alloc, "arrive"),
         Command::Inspect(_, _) => later(alloc, "inspect"),
+    }
+}
+
+/// Does what a command says, `run` on threads.
+pub(crate) fn carry_out<R, H, S, G>(
+    rt: &R,
+    alloc: Global,
+    command: &Command,
+    host: &mut H,
+    console: &mut S,
+    gate: &G,
+) -> Finish
+where
+    R: Threads + Wait + Sync,
+    H: Host,
+    S: Sink,
+    G: Gate + Sync,
+    requires { HasLimit command.now }
+    ensures { Works H.seen S.seen command.now host.old host.new console.old console.new result.ending result.kept }
+{
+    match command {
+        Command::Run(words) => run(rt, alloc, words, host, console, gate),
+        _ => carry_out_still(alloc, command, host, console, gate),
     }
 }
 
@@ -46,6 +73,7 @@ pub(crate) fn asks_state(command: &Command) -> bool
 {
     match command {
         Command::Solo(words) => words.state,
+        Command::Run(words) => words.state,
         Command::Replay(words, _) => words.state,
         _ => false,
     }

@@ -23,9 +23,9 @@ do_command-requires-after_bounds g c κs within = limits (texts c.args.words.now
 pub returns-in-Ok-clause-does : goal.returns-in-Ok-clause-does
 returns-in-Ok-clause-does g c = λ command says.
     let same : c.in-Ok.command ≡ command = (let s : Some c.in-Ok.command ≡ Some command = sym c.in-Ok.ensures.command ∙ says in cc) in
-    subst (λ (x : Command). Does g.H.Host.seen g.S.Sink.seen g.L.Sink.seen g.H.Image.Image.seen x c.args.host.now c.do_command.new.host c.args.console.now c.do_command.new.console c.args.log.now c.do_command.new.log c.of.result.ending c.of.result.kept) same
-    (subst (λ (e : Ending). Does g.H.Host.seen g.S.Sink.seen g.L.Sink.seen g.H.Image.Image.seen c.in-Ok.command c.args.host.now c.do_command.new.host c.args.console.now c.do_command.new.console c.args.log.now c.do_command.new.log e c.of.result.kept) (sym c.of.ensures.ending)
-    (subst (λ (k : Option Kept). Does g.H.Host.seen g.S.Sink.seen g.L.Sink.seen g.H.Image.Image.seen c.in-Ok.command c.args.host.now c.do_command.new.host c.args.console.now c.do_command.new.console c.args.log.now c.do_command.new.log c.do_command.result.ending k) (sym c.of.ensures.kept)
+    subst (λ (x : Command). Does g.H.Host.seen g.S.Sink.seen g.L.Sink.seen x c.args.host.now c.do_command.new.host c.args.console.now c.do_command.new.console c.args.log.now c.do_command.new.log c.of.result.ending c.of.result.kept) same
+    (subst (λ (e : Ending). Does g.H.Host.seen g.S.Sink.seen g.L.Sink.seen c.in-Ok.command c.args.host.now c.do_command.new.host c.args.console.now c.do_command.new.console c.args.log.now c.do_command.new.log e c.of.result.kept) (sym c.of.ensures.ending)
+    (subst (λ (k : Option Kept). Does g.H.Host.seen g.S.Sink.seen g.L.Sink.seen c.in-Ok.command c.args.host.now c.do_command.new.host c.args.console.now c.do_command.new.console c.args.log.now c.do_command.new.log c.do_command.result.ending k) (sym c.of.ensures.kept)
     c.do_command.ensures))
 
 pub returns-in-Ok-clause-usage : goal.returns-in-Ok-clause-usage
@@ -48,10 +48,10 @@ returns-in-Err-clause-does g c = λ command says.
     let before : c.refused.result.ending ≡ how.Refused Memory = c.refused.ensures.ending ∙ ap {A = Refusal} {B = Ending} (λ r. how.Refused r) memory in
     let said = told_refusal Memory c.refused.result.ending c.tell.result.ending c.refused.result.kept false c.args.log.now c.tell.new.log (g.L.Sink.seen c.args.log.now) (g.L.Sink.seen c.tell.new.log) before
     c.tell.ensures.told in
-    subst (λ (e : Ending). Does g.H.Host.seen g.S.Sink.seen g.L.Sink.seen g.H.Image.Image.seen command c.args.host.now c.args.host.now c.args.console.now c.args.console.now c.args.log.now c.tell.new.log e c.of-in-Err.result.kept) (sym c.of-in-Err.ensures.ending)
-    (subst (λ (k : Option Kept). Does g.H.Host.seen g.S.Sink.seen g.L.Sink.seen g.H.Image.Image.seen command c.args.host.now c.args.host.now c.args.console.now c.args.console.now c.args.log.now c.tell.new.log c.tell.result.ending k)
+    subst (λ (e : Ending). Does g.H.Host.seen g.S.Sink.seen g.L.Sink.seen command c.args.host.now c.args.host.now c.args.console.now c.args.console.now c.args.log.now c.tell.new.log e c.of-in-Err.result.kept) (sym c.of-in-Err.ensures.ending)
+    (subst (λ (k : Option Kept). Does g.H.Host.seen g.S.Sink.seen g.L.Sink.seen command c.args.host.now c.args.host.now c.args.console.now c.args.console.now c.args.log.now c.tell.new.log c.tell.result.ending k)
     (sym (c.of-in-Err.ensures.kept ∙ c.tell.ensures.kept ∙ c.refused.ensures.kept))
-    (spent_does g.H.Host.seen g.S.Sink.seen g.L.Sink.seen g.H.Image.Image.seen c.args.host.now c.args.console.now c.args.log.now c.tell.new.log (λ told. g.met.H.Host.since_earlier c.args.host.now told) command c.tell.result.ending said))
+    (spent_does g.H.Host.seen g.S.Sink.seen g.L.Sink.seen c.args.host.now c.args.console.now c.args.log.now c.tell.new.log (λ told. g.met.H.Host.since_earlier c.args.host.now told) command c.tell.result.ending said))
 
 pub returns-in-Err-clause-usage : goal.returns-in-Err-clause-usage
 returns-in-Err-clause-usage g c = λ none.
