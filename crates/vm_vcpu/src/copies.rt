@@ -168,14 +168,13 @@ impl Copies {
         requires { AreCopies board.now.state self.old }
         ensures { AreRenewed board.now.state self.new }
     {
-        let mut page = [0; PAGE];
         for number in 0..self.versions.len() as u32 {
-            self.renew_page(board, number, &mut page);
+            self.renew_page(board, number);
         }
     }
 
-    /// Renews the copy of a page where the page has another version. `page` is written over.
-    fn renew_page<I: Image + Drop>(&mut self, board: &Board<I>, number: u32, page: &mut [u8; PAGE])
+    /// Renews the copy of a page where the page has another version.
+    fn renew_page<I: Image + Drop>(&mut self, board: &Board<I>, number: u32)
         requires there { number < length self.old.versions }
         requires count { length self.old.versions ≡ length board.now.state.versions }
         requires size { length self.old.code ≡ length (code_of board.now.state.machine) }
@@ -183,9 +182,23 @@ impl Copies {
     {
         let version = board.version(number);
         if *self.versions.at(number as usize) != version {
-            let count = board.code_page(number, page);
-            self.replace(number, version, &page[..count]);
+            self.copy_page(board, number, version);
         }
+    }
+
+    /// Takes over a page. It stands in a function of its own, since a page on the stack is filled with zeros first.
+    #[inline(never)]
+    fn copy_page<I: Image + Drop>(&mut self, board: &Board<I>, number: u32, version: u64)
+        requires there { number < length self.old.versions }
+        requires count { length self.old.versions ≡ length board.now.state.versions }
+        requires size { length self.old.code ≡ length (code_of board.now.state.machine) }
+        requires pages { length self.old.versions ≡ page_count (length self.old.code) }
+        requires version { version ≡ slice_index board.now.state.versions number }
+        ensures { IsPageRenewed board.now.state self.old self.new number }
+    {
+        let mut page = [0; PAGE];
+        let count = board.code_page(number, &mut page);
+        self.replace(number, version, &page[..count]);
     }
 
     /// Replaces the copy of a page.
