@@ -1,0 +1,13 @@
+//! Runs in threads: guests whose threads must overlap, or meet.
+#![tactic(auto)]
+
+#[cfg(test)]
+mod gates;
+#[cfg(test)]
+mod guests;
+#[cfg(test)]
+mod runs;
+#[cfg(test)]
+mod words;
+#[cfg(test)]
+mod workloads;
