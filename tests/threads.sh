@@ -28,11 +28,17 @@ configured() { # NAME
     done
 }
 
+# what a run may have: anything; no thread, since a thread's stack alone takes more than all memory that it may have; or
+# two threads at most (KiB)
+anything() { :; }
+no_thread() { ulimit -s 8388608 && ulimit -v 1048576; }
+two_threads() { ulimit -s 550000 && ulimit -v 1400000; }
+
 # one run: its status, its console, its journal's replay. A guest that waits in a loop may spend its instructions on that where
 # the other vCPU gets no processor: it then has status 5 and wrote nothing
-try_once() { # NAME NUMBER CONSOLE
+try_once() { # NAME NUMBER CONSOLE [LIMITS]
     configured "$1"
-    "$program" run "$made/conf" --limit 20000000 --journal "$made/journal" >"$made/console" 2>"$made/log"
+    ("${4:-anything}" && exec "$program" run "$made/conf" --limit 20000000 --journal "$made/journal") >"$made/console" 2>"$made/log"
     status=$?
     if [ "$1 $status" = "starts 5" ]; then
         spent=$((spent + 1))
@@ -64,5 +70,12 @@ while [ "$number" -le "$runs" ]; do
     disks_written "$number"
     number=$((number + 1))
 done
-echo "$runs runs of each of 3 guests, $failed wrong; $spent of the first spent their instructions on waiting"
+# runs in which every start of a thread is refused, or all but two
+for limits in no_thread two_threads; do
+    try_once starts "$limits" '1' "$limits"
+    try_once counts "$limits" '10000\n' "$limits"
+    try_once disks "$limits" '00000 12\n00000 34\n' "$limits"
+    disks_written "$limits"
+done
+echo "$runs runs of each of 3 guests, $failed wrong; $spent of the first spent their instructions on waiting; the same guests without a thread and with two"
 [ "$failed" -eq 0 ]
