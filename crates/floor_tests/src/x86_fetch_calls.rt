@@ -86,7 +86,7 @@ fn cached_memory(rt: HostRuntime) -> Result<(), Fail> {
     let mut ctx = START;
     assert!(rt; ram.stands_local(&ctx) && ram.all_local(&ctx, 2) && !ram.all_local(&ctx, 3));
     assert!(rt; ram.run_slice(&mut ctx, 9) == 2 && ctx.regs[0] == 10);
-    ram.keep_next(&ctx);
+    assert!(rt; matches!(ram.next_kept(&ctx), Next::Shared { len: 1, .. }));
     assert!(rt; matches!(ram.next_of(&ctx), Next::Shared { len: 1, .. }));
     ram.reserve(rt.alloc(), 2)?;
     ram.is_sound();

@@ -5,9 +5,11 @@ ghost use Rattle.x86_fetch.specs.Slices.{LocalRun};
 ghost use Rattle.vm_state.specs.Machine.{code_of, cpu_at, cpu_count, drive_count};
 ghost use Rattle.vm_state.specs.Start.{IsSound, boot};
 ghost use Rattle.vm_board.specs.Board.{IsBoard};
-ghost use Rattle.vm_board.specs.Calls.{Adds, IsSame, MayAdd, moves_image};
+ghost use Rattle.vm_table.specs.Rounds.{chosen};
+ghost use Rattle.vm_board.specs.Calls.{Adds, ChoosesAtHome, IsSame, MayAdd, moves_image};
 ghost use Rattle.vm_board.specs.Homes.{AreFresh, IsAtHome, held_sector};
 ghost use Rattle.vm_board.specs.Pages.{page_of};
+ghost use Rattle.vm_board.specs.Turn.{GoesOn, some_entry};
 
 use crate::held::held_sector;
 use std::alloc::Global;
@@ -166,6 +168,24 @@ impl<I: Image + Drop> Board<I> {
     {
         self.run.apply(by, &entry);
         self.journal.push_reserved(Signed { by, entry });
+    }
+
+    /// Adds what an actor chooses in its turn, the first entry of its pass's list that is lawful, and says whether there is one.
+    /// It moves no image.
+    pub fn add_first(&mut self, by: u16) -> bool
+        requires home { ChoosesAtHome self.old.state by }
+        requires room { 1 ≤ self.old.room }
+        ensures goes_on { GoesOn self.old self.new (chosen self.old.state by) }
+        ensures some { result ≡ some_entry (chosen self.old.state by) }
+        ensures images { self.new.images ≡ self.old.images }
+    {
+        match self.run.advance_first(by) {
+            Some(entry) => {
+                self.journal.push_reserved(Signed { by, entry });
+                true
+            }
+            None => false,
+        }
     }
 
     /// The registers of a vCPU.

@@ -8,7 +8,6 @@ use Rattle.vm_cmd.specs.Form.{Form, Use, reads, given, value_of}
 use Rattle.vm_cmd.specs.declared.command.Command.{Command}
 use Rattle.vm_cmd.specs.declared.command.Command.TheVariants.{Run, Solo, Replay, Show, Asm, Make, Convert, Arrive, Inspect}
 use Rattle.vm_cmd.specs.declared.command.RunWords.{RunWords}
-use Rattle.vm_cmd.specs.declared.command.InspectWords.{InspectWords}
 
 infixl 10 ◌>>=◌
 abbrev pub ◌>>=◌ : {A B : Type 0} → Option A → (A → Option B) → Option B

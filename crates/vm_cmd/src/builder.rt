@@ -1,6 +1,6 @@
 //! The commands that `clap` reads by, one for each row of the table.
 ghost use Rattle.std.specs.Prelude.{◌≡◌, false, true, IfOk, Some};
-ghost use Rattle.clap.specs.Words.{app_of, rule_of};
+ghost use Rattle.clap.specs.Words.{app_of, rule_of, with_rule};
 ghost use Rattle.vm_cmd.specs.Shapes.{place_of, valued_of, flag_of, bare_app, run_app, replay_app, show_app, files_app, make_app, inspect_app};
 
 use clap::{Arg, ArgAction, Command};
@@ -38,89 +38,108 @@ fn bare<'a>(alloc: Global, name: &'a str) -> Command<'a>
         .disable_help_flag(true)
 }
 
+// The next functions add one rule or two alike. A row's function then holds a command and no rules.
+
+fn with_place<'a>(
+    alloc: Global,
+    command: Command<'a>,
+    id: &'a str,
+) -> Result<Command<'a>, AllocError>
+    ensures { IfOk result (λ c. app_of c ≡ with_rule (app_of command.entry) (place_of id.entry.now)) }
+{
+    command.arg(place(alloc, id))
+}
+
+fn with_valued<'a>(
+    alloc: Global,
+    command: Command<'a>,
+    id: &'a str,
+) -> Result<Command<'a>, AllocError>
+    ensures { IfOk result (λ c. app_of c ≡ with_rule (app_of command.entry) (valued_of id.entry.now)) }
+{
+    command.arg(valued(alloc, id))
+}
+
+fn with_places<'a>(
+    alloc: Global,
+    command: Command<'a>,
+    first: &'a str,
+    second: &'a str,
+) -> Result<Command<'a>, AllocError>
+    ensures { IfOk result (λ c. app_of c ≡ with_rule (with_rule (app_of command.entry) (place_of first.entry.now)) (place_of second.entry.now)) }
+{
+    let command = with_place(alloc, command, first)?;
+    with_place(alloc, command, second)
+}
+
+fn with_both_valued<'a>(
+    alloc: Global,
+    command: Command<'a>,
+    first: &'a str,
+    second: &'a str,
+) -> Result<Command<'a>, AllocError>
+    ensures { IfOk result (λ c. app_of c ≡ with_rule (with_rule (app_of command.entry) (valued_of first.entry.now)) (valued_of second.entry.now)) }
+{
+    let command = with_valued(alloc, command, first)?;
+    with_valued(alloc, command, second)
+}
+
+fn with_flag<'a>(
+    alloc: Global,
+    command: Command<'a>,
+    id: &'a str,
+) -> Result<Command<'a>, AllocError>
+    ensures { IfOk result (λ c. app_of c ≡ with_rule (app_of command.entry) (flag_of id.entry.now)) }
+{
+    command.arg(flag(alloc, id))
+}
+
 /// The row of `run` and `solo`.
 pub fn run_command<'a>(alloc: Global) -> Result<Command<'a>, AllocError>
     ensures { IfOk result (λ c. app_of c ≡ run_app) }
 {
-    let file = place(alloc, "file");
-    let limit = valued(alloc, "limit");
-    let journal = valued(alloc, "journal");
-    let restore = valued(alloc, "restore");
-    let state = flag(alloc, "state");
-    let command = bare(alloc, "run")
-        .arg(file)?
-        .arg(limit)?
-        .arg(journal)?
-        .arg(restore)?
-        .arg(state)?;
-    Ok(command)
+    let command = with_place(alloc, bare(alloc, "run"), "file")?;
+    let command = with_both_valued(alloc, command, "limit", "journal")?;
+    let command = with_valued(alloc, command, "restore")?;
+    with_flag(alloc, command, "state")
 }
 
 /// The row of `replay`.
 pub fn replay_command<'a>(alloc: Global) -> Result<Command<'a>, AllocError>
     ensures { IfOk result (λ c. app_of c ≡ replay_app) }
 {
-    let file = place(alloc, "file");
-    let journal = place(alloc, "journal");
-    let limit = valued(alloc, "limit");
-    let restore = valued(alloc, "restore");
-    let state = flag(alloc, "state");
-    let command = bare(alloc, "replay")
-        .arg(file)?
-        .arg(journal)?
-        .arg(limit)?
-        .arg(restore)?
-        .arg(state)?;
-    Ok(command)
+    let command = with_places(alloc, bare(alloc, "replay"), "file", "journal")?;
+    let command = with_both_valued(alloc, command, "limit", "restore")?;
+    with_flag(alloc, command, "state")
 }
 
 /// The row of `show`.
 pub fn show_command<'a>(alloc: Global) -> Result<Command<'a>, AllocError>
     ensures { IfOk result (λ c. app_of c ≡ show_app) }
 {
-    let config = place(alloc, "config");
-    let command = bare(alloc, "show").arg(config)?;
-    Ok(command)
+    with_place(alloc, bare(alloc, "show"), "config")
 }
 
 /// The row of `asm`, `convert` and `arrive`.
 pub fn files_command<'a>(alloc: Global) -> Result<Command<'a>, AllocError>
     ensures { IfOk result (λ c. app_of c ≡ files_app) }
 {
-    let file = place(alloc, "file");
-    let out = place(alloc, "out");
-    let command = bare(alloc, "files").arg(file)?.arg(out)?;
-    Ok(command)
+    with_places(alloc, bare(alloc, "files"), "file", "out")
 }
 
 /// The row of `make`.
 pub fn make_command<'a>(alloc: Global) -> Result<Command<'a>, AllocError>
     ensures { IfOk result (λ c. app_of c ≡ make_app) }
 {
-    let cpus = place(alloc, "cpus");
-    let number = place(alloc, "number");
-    let command = bare(alloc, "make").arg(cpus)?.arg(number)?;
-    Ok(command)
+    with_places(alloc, bare(alloc, "make"), "cpus", "number")
 }
 
 /// The row of `inspect`.
 pub fn inspect_command<'a>(alloc: Global) -> Result<Command<'a>, AllocError>
     ensures { IfOk result (λ c. app_of c ≡ inspect_app) }
 {
-    let file = place(alloc, "file");
-    let journal = place(alloc, "journal");
-    let at = place(alloc, "at");
-    let limit = valued(alloc, "limit");
-    let restore = valued(alloc, "restore");
-    let vector = valued(alloc, "vector");
-    let sector = valued(alloc, "sector");
-    let command = bare(alloc, "inspect")
-        .arg(file)?
-        .arg(journal)?
-        .arg(at)?
-        .arg(limit)?
-        .arg(restore)?
-        .arg(vector)?
-        .arg(sector)?;
-    Ok(command)
+    let command = with_places(alloc, bare(alloc, "inspect"), "file", "journal")?;
+    let command = with_place(alloc, command, "at")?;
+    let command = with_both_valued(alloc, command, "limit", "restore")?;
+    with_both_valued(alloc, command, "vector", "sector")
 }

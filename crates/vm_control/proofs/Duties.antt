@@ -1,6 +1,7 @@
 -- What control chooses: it moves no image, and leaves what the console received.
-use Rattle.std.proofs.Common.{◌≡◌, ℕ, Bool, true, false, cond, List, [], ◌∷◌, ◌++◌, map, refl, sym, subst, ◌∙◌, inl, inr, Option, Some, None}
+use Rattle.std.proofs.Common.{◌≡◌, ℕ, Bool, true, false, cond, List, [], ◌∷◌, ◌++◌, map, refl, sym, subst, ◌∙◌, inr, Option, Some, None}
 use Rattle.std.specs.List.{find, list_all}
+use Rattle.std.specs.Option.{option_map, option_to_list}
 use Rattle.std.proofs.lemmas.Bool.{and_parts, and_from, true≢false}
 use Rattle.std.proofs.lemmas.List.Folds.{list_all-append}
 use Rattle.std.proofs.lemmas.Option.{same_Some}
@@ -20,6 +21,8 @@ use Rattle.vm_owners.specs.Turn.{turn_taken, turn_in, after_turn, with_routing}
 use Rattle.vm_orders.specs.Duties.{after_feed, after_meet, after_tick, after_wish, tick_of}
 use Rattle.vm_orders.specs.Done.{ordered, ordered_as, noted_as, said_as, after_done, request_cancelled, noted}
 use Rattle.vm_orders.specs.Ending.{after_end, after_close}
+use Rattle.vm_table.specs.History.{after_all}
+use Rattle.vm_table.specs.Rounds.{chosen}
 use Rattle.vm_table.specs.Table.{lawful, effect, counted, after}
 use Rattle.vm_table.specs.Turns.{control_list, first_lawful, list_of}
 use Rattle.vm_board.specs.Calls.{MayAdd, moves_image}
@@ -79,9 +82,6 @@ duty_stays (Hold d id) h = absurd (true≢false (sym h))
 duty_stays (Put d id ok) h = absurd (true≢false (sym h))
 duty_stays e h = refl
 
-pub chosen_may : (s : State) (e : Entry) → first_lawful s 0 ≡ Some e → MayAdd s (record { by = 0; entry = e })
-chosen_may s e h = record { lawful = (chosen_duty s e h).0; orderly = inl h }
-
 pub end_may : (s : State) → lawful s 0 (End Outside) ≡ true → MayAdd s (record { by = 0; entry = End Outside })
 end_may s h = record { lawful = h; orderly = inr refl }
 
@@ -134,3 +134,10 @@ effect_console s p e h = absurd (true≢false (sym h))
 pub duty_console : (s : State) (x : Signed) → is_duty x.entry ≡ true → (after s x).console ≡ s.console
 unfolding after counted
 duty_console s x h = effect_console s x.by x.entry h
+
+-- what control chooses sends nothing to the console
+pub chosen_console : (s : State) → (after_all s (chosen s 0)).console ≡ s.console
+chosen_console s = go (first_lawful s 0) refl where
+  go : (o : Option Entry) → first_lawful s 0 ≡ o → (after_all s (option_to_list (option_map (λ e. record { by = 0; entry = e }) o))).console ≡ s.console
+  go None is = refl
+  go (Some e) is = duty_console s (record { by = 0; entry = e }) (chosen_duty s e is).1

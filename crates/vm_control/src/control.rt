@@ -81,7 +81,10 @@ impl Control {
         ensures refused { OnErr result (self.new ≡ self.old) }
     {
         let from = self.console.len();
-        self.console.extend_from_slice(&run.console()[from..])?;
+        let console = run.console();
+        if from < console.len() {
+            self.console.extend_from_slice(&console[from..])?;
+        }
         Ok(())
     }
 
@@ -101,13 +104,14 @@ impl Control {
             board.add(0, end);
             return true;
         }
-        match board.run().first_lawful(0) {
-            Some(entry) => {
-                board.add(0, entry);
-                true
-            }
-            None => false,
-        }
+        board.add_first(0)
+    }
+
+    /// Whether nothing failed and no entry of control's list is lawful: then a turn adds nothing.
+    fn rests(&self, run: &Run) -> bool
+        ensures { result ≡ true → turn_of run.now.state self.now.failed ≡ [] }
+    {
+        !failures::any(&self.events) && run.first_lawful(0).is_none()
     }
 
     /// Takes a turn.
@@ -126,14 +130,15 @@ impl Control {
         ensures wrote { self.new.wrote ≡ self.old.wrote }
         ensures failed { self.new.failed ≡ self.old.failed }
     {
+        let rests = self.rests(board.run());
         if board.starved()
-            || board.reserve(alloc, 1).is_err()
+            || !rests && board.reserve(alloc, 1).is_err()
             || self.take_over(board.run()).is_err()
         {
             board.starve();
             return Did::Starved;
         }
-        let added = self.choose(board);
+        let added = !rests && self.choose(board);
         Did::of(board.run().closed(), added)
     }
 

@@ -52,6 +52,7 @@ pub(crate) fn has_executed(run: &RunState, count: u64) -> bool
 }
 
 /// Whether an order's condition holds.
+#[inline(always)]
 pub(crate) fn is_met(run: &RunState, order: &Order) -> bool
     requires { IsSoundState run.now.state }
     ensures { result ≡ spec.is_met run.now.state order.now }
@@ -70,6 +71,7 @@ pub(crate) fn is_met(run: &RunState, order: &Order) -> bool
 }
 
 /// Whether there is an order whose condition holds.
+#[inline(always)]
 fn is_ready(run: &RunState, order: Option<&Order>) -> bool
     requires { IsSoundState run.now.state }
     ensures { result ≡ spec.is_ready run.now.state (option_copied order.entry) }

@@ -22,6 +22,7 @@ fn any_pull(machine: &Machine) -> bool
 }
 
 /// Whether a byte of the input can be received.
+#[inline(always)]
 pub(crate) fn can_feed(run: &RunState) -> bool
     ensures { result ≡ spec.can_feed run.now.state }
 {
@@ -30,6 +31,7 @@ pub(crate) fn can_feed(run: &RunState) -> bool
 
 /// Whether nothing more can happen by itself, but that a timer fires: no vCPU has something to do, no rendezvous is open, no
 /// chain waits and no request is unfinished, and no byte of the input can be received.
+#[inline(always)]
 #[tactic(auto, unfolding(crate::specs::Quiet::is_still))]
 pub fn is_still(run: &RunState) -> bool
     requires { IsSoundState run.now.state }
@@ -43,6 +45,7 @@ pub fn is_still(run: &RunState) -> bool
 }
 
 /// Whether nothing more can happen by itself, and no firing of a timer would be seen.
+#[inline(always)]
 #[tactic(auto, unfolding(crate::specs::Quiet::is_quiet))]
 pub fn is_quiet(run: &RunState) -> bool
     requires { IsSoundState run.now.state }

@@ -23,14 +23,16 @@ fn next_at(run: &RunState, i: u8) -> Next
         .next_of(&run.machine.cpus.at(i as usize).ctx)
 }
 
-/// Keeps the instruction at RIP of a vCPU, so that it isn't decoded again. The run stays.
-fn keep_next(run: &mut RunState, i: u8)
+/// What stands at RIP of a vCPU. It is kept, so that it isn't decoded again. The run stays.
+#[inline(always)]
+fn next_kept(run: &mut RunState, i: u8) -> Next
     requires { IsTrue (machine.is_cpu run.old.state.machine i) }
-    ensures { run.new ≡ run.old }
+    ensures same { run.new ≡ run.old }
+    ensures next { result ≡ spec.next_at run.old.state i }
 {
     run.machine
         .ram
-        .keep_next(&run.machine.cpus.at(i as usize).ctx);
+        .next_kept(&run.machine.cpus.at(i as usize).ctx)
 }
 
 /// Whether a vCPU may run a Step, whatever its next instruction is.
@@ -115,8 +117,7 @@ fn step_next(run: &mut RunState, by: u16, i: u8) -> bool
     ensures room { run.old.room ≤ run.new.room + 1 }
     ensures spare { run.old.spare ≤ run.new.spare + 4 }
 {
-    keep_next(run, i);
-    match next_at(run, i) {
+    match next_kept(run, i) {
         Next::Local { .. } => false,
         Next::Shared { insn, len } => share_where_allowed(run, by, i, &insn, len),
         Next::Undefined => {

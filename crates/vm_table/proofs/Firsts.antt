@@ -2,12 +2,22 @@
 use Rattle.std.specs.Prelude.{map, filter, slice_get, Option}
 use Rattle.std.specs.List.{find, flat_map, range_with_len}
 use Rattle.std.specs.Option.{option_or}
-use Rattle.std.proofs.Common.{◌≡◌, ℕ, suc, add-one, ◌+◌, ◌-◌, ◌<◌, ◌≤◌, Bool, true, false, cond, List, ◌∷◌, ◌++◌, drop, Some, None, sym, ap, ◌∙◌, arith}
+use Rattle.std.proofs.Common.{◌≡◌, ℕ, zero, suc, add-one, ◌+◌, ◌-◌, ◌<◌, ◌≤◌, Bool, true, false, cond, List, [], ◌∷◌, ◌++◌, drop, Some, None, refl, sym, ap, ◌∙◌, arith}
 use Rattle.std.proofs.Math.Seq.{drop-cons}
 use Rattle.std.proofs.lemmas.List.Folds.{find-append}
 use Rattle.std.proofs.lemmas.Option.{slice_get_within, get_or_from_slice_get}
 use Rattle.vm_law.specs.declared.journal.Entry.{Entry}
 use Rattle.blk_queue.specs.declared.progress.Unfinished.{Unfinished}
+
+-- ---- what is found
+
+passes_at : (P : Entry → Bool) (y x : Entry) (rest : Option Entry) (b : Bool) → P y ≡ b → cond b (Some y) rest ≡ Some x → (rest ≡ Some x → P x ≡ true) → P x ≡ true
+passes_at P y x rest true is e f = let same : y ≡ x = cc in ap P (sym same) ∙ is
+passes_at P y x rest false is e f = f e
+
+pub find_passes : (P : Entry → Bool) (xs : List Entry) (x : Entry) → find P xs ≡ Some x → P x ≡ true
+find_passes P [] x e = absurd (cc)
+find_passes P (y ∷ ys) x e = passes_at P y x (find P ys) (P y) refl e (find_passes P ys x)
 
 -- ---- lists behind one another
 
@@ -46,6 +56,13 @@ row_passed P f k n l t h = h ∙ row_step P f k n l ∙ ap (λ (b : Bool). cond 
 pub row_none : (P : Entry → Bool) (f : ℕ → Entry) (k n : ℕ) → n ≤ k → find P (map f (range_with_len 0 n)) ≡ find P (map f (range_with_len k (n - k)))
     → None ≡ find P (map f (range_with_len 0 n))
 row_none P f k n l h = let e : n - k ≡ 0 = omega arith in sym (h ∙ ap (λ (m : ℕ). find P (map f (range_with_len k m))) e)
+
+-- none of those numbers passes
+pub none_in : (P : Entry → Bool) (f : ℕ → Entry) (len k : ℕ) → ((i : ℕ) → k ≤ i → i < k + len → P (f i) ≡ false) → find P (map f (range_with_len k len)) ≡ None
+none_in P f zero k h = refl
+none_in P f (suc len) k h =
+    ap (λ (b : Bool). cond b (Some (f k)) (find P (map f (range_with_len (k + 1) len)))) (h k (omega arith) (omega arith))
+    ∙ none_in P f len (k + 1) (λ i low high. h i (omega arith) (omega arith))
 
 -- ---- lists laid end to end, one for each number in a row
 

@@ -3,3 +3,4 @@ pub mod Firsts
 pub mod PlanParts
 pub mod Plan
 pub mod Looking
+pub mod Stages

@@ -1,16 +1,17 @@
 //! What an actor chooses in its turn: the first entry of its pass's list that is lawful.
-ghost use Rattle.std.specs.Prelude.{◌≡◌, ◌<◌, [], ◌∷◌, ◌++◌, map};
+ghost use Rattle.std.specs.Prelude.{◌≡◌, false, ◌<◌, ◌≤◌, ◌+◌, [], ◌∷◌, ◌++◌, map, IfSome};
 ghost use Rattle.std.specs.List.{find};
 ghost use Rattle.blk_queue.specs.Steps.{first_pending};
-ghost use Rattle.vm_state.specs.Machine.{cpu_count, cpu_numbers, drive_at, drive_count};
+ghost use Rattle.vm_state.specs.Machine.{cpu_at, cpu_count, cpu_numbers, drive_at, drive_count};
 ghost use Rattle.vm_state.specs.Requests.{has_worker};
 ghost use Rattle.vm_table.specs.Choosing as choice;
 ghost use Rattle.vm_table.specs.Table.{lawful};
+ghost use Rattle.vm_orders.specs.Duties.{tick_of};
 ghost use Rattle.vm_table.specs.Turns as turns;
 
 use crate::run::Run;
 use blk_queue::Progress;
-use vm_law::{EndCause, Entry};
+use vm_law::{EndCause, Entry, Owned};
 
 /// An entry that control considers of each vCPU.
 #[derive(Clone, Copy)]
@@ -70,22 +71,104 @@ impl Run {
         list.iter().copied().find(|entry| self.may(by, entry))
     }
 
+    /// Whether the vCPU is idle, or frozen by control: else control has no entry of it.
+    fn is_free(&self, cpu: u8) -> bool
+        requires { cpu < cpu_count self.now.state.machine }
+        ensures { result ≡ choice.is_free (cpu_at self.now.state.machine cpu).stage }
+    {
+        match self.cpu(cpu).stage.now() {
+            Owned::Idle => true,
+            Owned::Frozen(owner) => owner == 0,
+            Owned::Running(_) | Owned::Sleeping(_) => false,
+        }
+    }
+
+    /// Whether such an entry is lawful.
+    fn may_care(&self, care: Care, cpu: u8) -> bool
+        requires { cpu < cpu_count self.now.state.machine }
+        ensures { result ≡ lawful self.now.state 0 (choice.care_of care cpu) }
+    {
+        if self.is_free(cpu) {
+            return self.may(0, &care.of(cpu));
+        }
+        false
+    }
+
     /// The first of these entries, vCPU by vCPU, that is lawful for control.
     fn first_care(&self, care: Care) -> Option<Entry>
         ensures { result ≡ find (λ e. lawful self.now.state 0 e) (map (choice.care_of care) (cpu_numbers self.now.state.machine)) }
     {
         for cpu in 0..self.cpu_count() {
-            let entry = care.of(cpu);
-            if self.may(0, &entry) {
-                return Some(entry);
+            if self.may_care(care, cpu) {
+                return Some(care.of(cpu));
             }
         }
         None
     }
 
+    /// The first of control's entries for no vCPU by itself that is lawful.
+    #[tactic(auto, unfolding(crate::specs::Table::lawful, crate::specs::Table::allowed))]
+    fn first_for_all(&self) -> Option<Entry>
+        ensures { result ≡ find (λ e. lawful self.now.state 0 e) (Entry.Feed ∷ Entry.Tick (tick_of self.now.state) ∷ Entry.End EndCause.Budget
+            ∷ Entry.Wish ∷ Entry.Meet ∷ Entry.Done self.now.state.place ∷ Entry.Close ∷ []) }
+    {
+        let run = &self.run;
+        if run.closed {
+            return None;
+        }
+        if vm_orders::may_feed(run, 0) {
+            return Some(Entry::Feed);
+        }
+        let n = self.tick_of();
+        if vm_orders::may_tick(run, 0, n) {
+            return Some(Entry::Tick { n });
+        }
+        let why = EndCause::Budget;
+        if vm_orders::may_end(run, 0, why) {
+            return Some(Entry::End { why });
+        }
+        if vm_orders::may_wish(run, 0) {
+            return Some(Entry::Wish);
+        }
+        if vm_orders::may_meet(run, 0) {
+            return Some(Entry::Meet);
+        }
+        let k = self.place();
+        if vm_orders::may_done(run, 0, k) {
+            return Some(Entry::Done { k });
+        }
+        if vm_orders::may_close(run, 0) {
+            return Some(Entry::Close);
+        }
+        None
+    }
+
+    /// Whether some vCPU is idle, or frozen by control.
+    fn any_free(&self) -> bool
+        ensures { result ≡ false → choice.NoneIsFree self.now.state }
+    {
+        for cpu in 0..self.cpu_count() {
+            if self.is_free(cpu) {
+                return true;
+            }
+        }
+        false
+    }
+
     /// What control chooses.
-    #[tactic(auto, unfolding(crate::specs::Turns::control_list), using(crate::proofs::Firsts::find_parts))]
     fn first_of_control(&self) -> Option<Entry>
+        ensures { result ≡ find (λ e. lawful self.now.state 0 e) (turns.control_list self.now.state) }
+    {
+        if self.any_free() {
+            self.first_listed_for_control()
+        } else {
+            self.first_for_all()
+        }
+    }
+
+    /// What control chooses, whatever the stages of the vCPUs are.
+    #[tactic(auto, unfolding(crate::specs::Turns::control_list), using(crate::proofs::Firsts::find_parts))]
+    fn first_listed_for_control(&self) -> Option<Entry>
         ensures { result ≡ find (λ e. lawful self.now.state 0 e) (turns.control_list self.now.state) }
     {
         if let Some(entry) = self.first_care(Care::Turn) {
@@ -97,20 +180,7 @@ impl Run {
         if let Some(entry) = self.first_care(Care::Claim) {
             return Some(entry);
         }
-        self.first_among(
-            0,
-            &[
-                Entry::Feed,
-                Entry::Tick { n: self.tick_of() },
-                Entry::End {
-                    why: EndCause::Budget,
-                },
-                Entry::Wish,
-                Entry::Meet,
-                Entry::Done { k: self.place() },
-                Entry::Close,
-            ],
-        )
+        self.first_for_all()
     }
 
     /// What a runner chooses once nothing else is lawful: an Exit where one is due, and then a Step.
@@ -131,6 +201,10 @@ impl Run {
         requires { cpu < cpu_count self.now.state.machine }
         ensures { result ≡ find (λ e. lawful self.now.state by e) (turns.runner_list self.now.state cpu) }
     {
+        // All before the last two are of a vCPU that isn't running.
+        if self.cpu(cpu).is_running(by) {
+            return self.last_of_runner(by, cpu);
+        }
         let grant = self.grant();
         let first = self.first_among(
             by,
@@ -239,5 +313,61 @@ impl Run {
             return self.first_of_runner(by, (by - 1) as u8);
         }
         self.first_of_worker(by)
+    }
+
+    /// The vCPU of a pass that can choose nothing but a Step of it: it runs, and no Exit is due.
+    fn steps_alone(&self, by: u16) -> Option<u8>
+        ensures { IfSome result (λ cpu. turns.first_lawful self.now.state by ≡ choice.where_lawful self.now.state by (Entry.Step cpu)) }
+    {
+        if by == 0 || by > u16::from(self.cpu_count()) {
+            return None;
+        }
+        let cpu = (by - 1) as u8;
+        if self.cpu(cpu).is_running(by) && !self.exit_due(cpu) {
+            Some(cpu)
+        } else {
+            None
+        }
+    }
+
+    /// Makes the step of a Step where it is lawful for the pass.
+    fn advance_step(&mut self, by: u16, cpu: u8) -> Option<Entry>
+        requires room { 1 ≤ self.old.room }
+        ensures chosen { result ≡ choice.where_lawful self.old.state by (Entry.Step cpu) }
+        ensures step { self.new.state ≡ choice.after_choice self.old.state by result }
+        ensures room { self.old.room ≤ self.new.room + 1 }
+    {
+        let entry = Entry::Step { cpu };
+        if self.advance(by, &entry) {
+            Some(entry)
+        } else {
+            None
+        }
+    }
+
+    /// Makes the step of the first of a pass's entries that is lawful, if there is one.
+    fn advance_listed(&mut self, by: u16) -> Option<Entry>
+        requires room { 1 ≤ self.old.room }
+        ensures chosen { result ≡ turns.first_lawful self.old.state by }
+        ensures step { self.new.state ≡ choice.after_choice self.old.state by result }
+        ensures room { self.old.room ≤ self.new.room + 1 }
+    {
+        let entry = self.first_lawful(by)?;
+        self.apply(by, &entry);
+        Some(entry)
+    }
+
+    /// Makes the step of what an actor chooses in its turn, the first entry of its pass's list that is lawful, and says which it
+    /// is; where there is none the run stays. A Step's instruction is looked up once. There is to be room for an entry.
+    pub fn advance_first(&mut self, by: u16) -> Option<Entry>
+        requires room { 1 ≤ self.old.room }
+        ensures chosen { result ≡ turns.first_lawful self.old.state by }
+        ensures step { self.new.state ≡ choice.after_choice self.old.state by result }
+        ensures room { self.old.room ≤ self.new.room + 1 }
+    {
+        match self.steps_alone(by) {
+            Some(cpu) => self.advance_step(by, cpu),
+            None => self.advance_listed(by),
+        }
     }
 }

@@ -73,7 +73,7 @@ fn close<I: Image + Drop>(
 /// takes its turns between those of control.
 ///
 /// Where control's work outside fails, control ends the run at its next turn if it isn't ended, and `answer` is that failure once
-/// the run is closed. `answer` is `Memory` exactly where memory was wanted while they played; then they stop, and the board notes
+/// the run is closed. `answer` is `Memory` only where memory was wanted while they played; then they stop, and the board notes
 /// it. On `OutOfMemory` none was started, and the console took nothing. The host isn't called.
 pub fn play_threads<R, I, H, S, G>(
     rt: &R,

@@ -2,11 +2,14 @@
 use Rattle.std.specs.Prelude.{ℕ, if◌then◌else◌, refl}
 use Rattle.std.specs.Coded.{Coded, code_by, coded×, coded_ℕ}
 use Rattle.x86_fetch.specs.Slices.{most_local, stepped_by}
+use Rattle.vm_law.specs.declared.context.Ctx.{Ctx}
 use Rattle.vm_state.specs.Machine.{cpu_at}
 use Rattle.vm_state.specs.State.{State, seat_at}
 use Rattle.vm_table.specs.Rounds.{Lease, leases, no_lease, pages_looked}
 use Rattle.vm_vcpu.specs.declared.out.Out.{Out}
 use Rattle.vm_vcpu.specs.declared.out.Out.TheVariants.{Nothing, Leased, Ran}
+use Rattle.vm_vcpu.specs.declared.out.Phase.{Phase}
+use Rattle.vm_vcpu.specs.declared.out.Phase.TheVariants as phase
 use Rattle.vm_vcpu.specs.contracts.out.Out as out_contract
 use Rattle.vm_vcpu.specs.Copies.{CopiesView, copies_code}
 
@@ -21,6 +24,12 @@ abbrev pub runner_code : Coded RunnerView
 runner_code =
     code_by (ℕ × (ℕ × (CopiesView × Out))) (coded× coded_ℕ (coded× coded_ℕ (coded× copies_code out_contract.the_row.coded)))
     (λ r. (r.cpu, (r.by, (r.copies, r.out)))) (λ p. record { cpu = p.0; by = p.1.0; copies = p.1.1.0; out = p.1.1.1 }) (λ _. refl)
+
+-- what is out in a phase
+abbrev pub out_of : Phase → Ctx → ℕ → ℕ → Ctx → Out
+out_of phase.Nothing start left count ctx = Nothing
+out_of phase.Leased start left count ctx = Leased start left
+out_of phase.Ran start left count ctx = Ran start left count ctx
 
 -- the instructions that it ran ahead, and the pages that it looked at for them
 abbrev pub lease_in : CopiesView → Out → Lease

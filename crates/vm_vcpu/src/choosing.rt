@@ -16,11 +16,5 @@ pub(crate) fn choose<I: Image + Drop>(board: &mut Board<I>, cpu: u8, by: u16) ->
     ensures grows { Grows board.old board.new (chosen board.old.state by) }
     ensures some { result ≡ some_entry (chosen board.old.state by) }
 {
-    match board.run().first_lawful(by) {
-        Some(entry) => {
-            board.add(by, entry);
-            true
-        }
-        None => false,
-    }
+    board.add_first(by)
 }

@@ -19,3 +19,11 @@ pub enum Out {
         ctx: Ctx,
     },
 }
+
+/// Which of these it has out.
+#[derive(Clone, Copy)]
+pub(crate) enum Phase {
+    Nothing,
+    Leased,
+    Ran,
+}

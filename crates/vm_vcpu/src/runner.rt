@@ -11,12 +11,13 @@ ghost use Rattle.vm_vcpu.specs.View as view;
 
 use crate::choosing::choose;
 use crate::copies::Copies;
-use crate::out::Out;
+use crate::out::Phase;
 use std::alloc::Global;
 use std::marker::Model;
 use vm_board::{Board, Did};
 use vm_host::{Gate, Image, Place};
-use vm_law::{OutOfMemory, Owned};
+use vm_law::{Ctx, OutOfMemory, Owned};
+use vm_state::ctx_from;
 use vm_table::Run;
 
 /// The runner of a vCPU.
@@ -25,17 +26,21 @@ pub struct Runner {
     cpu: u8,
     by: u16,
     copies: Copies,
-    out: Out,
+    phase: Phase,
+    left: u16,
+    count: u16,
+    start: Ctx,
+    ctx: Ctx,
 }
 
 impl Model for Runner {
-    ghost use Rattle.vm_vcpu.specs.View.{RunnerView, runner_code};
+    ghost use Rattle.vm_vcpu.specs.View.{RunnerView, out_of, runner_code};
 
     ghost Value = { RunnerView };
 
     ghost coded = { runner_code };
 
-    ghost view = { λ r. record { cpu = r.cpu; by = r.by; copies = r.copies; out = r.out } };
+    ghost view = { λ r. record { cpu = r.cpu; by = r.by; copies = r.copies; out = out_of r.phase r.start r.left r.count r.ctx } };
 }
 
 impl Runner {
@@ -49,7 +54,11 @@ impl Runner {
             cpu,
             by,
             copies,
-            out: Out::Nothing,
+            phase: Phase::Nothing,
+            left: 0,
+            count: 0,
+            start: ctx_from(0),
+            ctx: ctx_from(0),
         })
     }
 
@@ -71,16 +80,11 @@ impl Runner {
     pub fn outside<G: Gate>(&mut self, gate: &G)
         ensures { self.new ≡ record self.old { out = view.ran_ahead self.old.copies self.old.out } }
     {
-        if let Out::Leased { ctx: start, left } = self.out {
+        if let Phase::Leased = self.phase {
             gate.at(Place::Slice { cpu: self.cpu });
-            let mut ctx = start;
-            let count = self.copies.run(&mut ctx, left);
-            self.out = Out::Ran {
-                start,
-                left,
-                count,
-                ctx,
-            };
+            self.ctx = self.start;
+            self.count = self.copies.run(&mut self.ctx, self.left);
+            self.phase = Phase::Ran;
         }
     }
 
@@ -148,21 +152,20 @@ impl Runner {
         ensures some { result ≡ some_entry (rounds.lease_back board.old.state self.old.cpu (view.lease_now self.old)) }
         ensures room { board.old.room ≤ board.new.room + 1 }
     {
-        match self.out {
-            Out::Ran {
-                start,
-                left,
-                count,
-                ctx,
-            } => {
-                if count == 0 || !self.copies.are_kept(board.run(), &start, count, left) {
+        match self.phase {
+            Phase::Ran => {
+                if self.count == 0
+                    || !self
+                        .copies
+                        .are_kept(board.run(), &self.start, self.count, self.left)
+                {
                     return false;
                 }
                 board.is_sound();
-                board.commit(self.by, self.cpu, count, ctx);
+                board.commit(self.by, self.cpu, self.count, self.ctx);
                 true
             }
-            Out::Nothing | Out::Leased { .. } => false,
+            Phase::Nothing | Phase::Leased => false,
         }
     }
 
@@ -176,7 +179,14 @@ impl Runner {
         ensures out { self.new.out ≡ view.taken_out board.now.state self.new.cpu }
     {
         self.copies.renew(board);
-        self.out = taken_out(board, self.cpu, self.by);
+        let run = board.run();
+        if is_leased(run, self.cpu, self.by) {
+            self.start = run.cpu(self.cpu).ctx;
+            self.left = run.left(self.cpu);
+            self.phase = Phase::Leased;
+        } else {
+            self.phase = Phase::Nothing;
+        }
     }
 }
 
@@ -186,22 +196,13 @@ fn either(a: bool, b: bool) -> bool
     a || b
 }
 
-/// What the runner of a vCPU takes out.
-#[tactic(auto, unfolding(vm_table::specs::Rounds::run_outside))]
-fn taken_out<I: Image + Drop>(board: &Board<I>, cpu: u8, by: u16) -> Out
-    requires there { cpu < cpu_count board.now.state.machine }
+/// Whether the runner of a vCPU takes its context: the vCPU runs by the pass, and no Exit is due.
+fn is_leased(run: &Run, cpu: u8, by: u16) -> bool
+    requires there { cpu < cpu_count run.now.state.machine }
     requires pass { by ≡ 1 + cpu }
-    ensures { result ≡ view.taken_out board.now.state cpu }
+    ensures { result ≡ rounds.leases run.now.state cpu }
 {
-    let run = board.run();
-    if run.cpu(cpu).is_running(by) && !run.exit_due(cpu) {
-        Out::Leased {
-            ctx: board.lease(cpu),
-            left: run.left(cpu),
-        }
-    } else {
-        Out::Nothing
-    }
+    run.cpu(cpu).is_running(by) && !run.exit_due(cpu)
 }
 
 /// Whether the pass owns a vCPU in this stage.

@@ -112,11 +112,15 @@ impl CachedRam {
         slices::all_local(&self.ram, &self.table, ctx, count)
     }
 
-    /// Keeps the instruction at RIP of a context, where one stands there. Memory stays.
-    pub fn keep_next(&mut self, ctx: &Ctx)
-        ensures { self.new ≡ self.old }
+    /// What stands at RIP of a context, in the code. It is kept, so that it isn't decoded again. A division that faults in
+    /// this context isn't local. Memory stays.
+    #[inline(always)]
+    pub fn next_kept(&mut self, ctx: &Ctx) -> Next
+        ensures same { self.new ≡ self.old }
+        ensures next { result ≡ fetching_spec.next_of (code_of self.old.memory) ctx.now }
+        ensures found { fetching_spec.IsFound ctx.now result }
     {
-        fetching::keep_at(&self.ram, &mut self.table, ctx.rip);
+        fetching::next_kept(&self.ram, &mut self.table, ctx)
     }
 
     /// Runs local instructions for as long as there are any, but at most `most`, and says how many it ran. Memory stays.

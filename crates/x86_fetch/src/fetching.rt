@@ -61,6 +61,33 @@ fn next_anew<C: Code>(code: &C, ctx: &Ctx) -> Next
     }
 }
 
+/// What stands at RIP of a context. It is kept in the table where it isn't yet.
+#[inline(always)]
+#[tactic(auto, unfolding(crate::specs::Fetching::next_of))]
+pub fn next_kept<C: Code>(code: &C, table: &mut Table, ctx: &Ctx) -> Next
+    requires { AreKept (C.bytes code.now) table.old }
+    ensures kept { AreKept (C.bytes code.now) table.new }
+    ensures next { result ≡ spec.next_of (C.bytes code.now) ctx.now }
+    ensures found { spec.IsFound ctx.now result }
+{
+    match table.kept(ctx.rip) {
+        Some(found) => found.next(ctx),
+        None => next_to_keep(code, table, ctx),
+    }
+}
+
+/// The same where it isn't kept yet.
+#[inline(never)]
+fn next_to_keep<C: Code>(code: &C, table: &mut Table, ctx: &Ctx) -> Next
+    requires { AreKept (C.bytes code.now) table.old }
+    ensures kept { AreKept (C.bytes code.now) table.new }
+    ensures next { result ≡ spec.next_of (C.bytes code.now) ctx.now }
+    ensures found { spec.IsFound ctx.now result }
+{
+    keep_at(code, table, ctx.rip);
+    next_of(code, table, ctx)
+}
+
 /// Decodes the instruction at an address, where one stands there and isn't kept yet, and keeps it.
 pub fn keep_at<C: Code>(code: &C, table: &mut Table, at: u64)
     requires { AreKept (C.bytes code.now) table.old }

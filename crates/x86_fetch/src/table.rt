@@ -25,6 +25,7 @@ pub struct Found {
 
 impl Found {
     /// What it is in a context: a division that faults there isn't local.
+    #[inline(always)]
     pub fn next(&self, ctx: &Ctx) -> Next
         requires { self.now.local ≡ is_local self.now.insn }
         ensures next { result ≡ fetching.next_decoded ctx.now (Ok (self.now.insn, self.now.len)) }

@@ -3,12 +3,13 @@
 ghost use Rattle.std.specs.Prelude.{◌≡◌, ◌/◌, ◌≤◌, None, IfSome, IsTrue};
 ghost use Rattle.x86_alu.specs.Operand.{size_of};
 ghost use Rattle.x86_op.specs.Access as spec;
+ghost use Rattle.x86_op.specs.Operand.{passed};
 
 use crate::address::address_behind;
 use crate::flow::{BP, SP, top_of};
 use crate::operand::register;
 use crate::touch::{Touch, touched};
-use vm_law::{Ctx, Insn, Width};
+use vm_law::{Ctx, Insn, Loc, Mem, Op, Src, Width};
 
 /// How an instruction accesses memory.
 #[derive(Clone, Copy, Debug, PartialEq, Eq)]
@@ -52,12 +53,26 @@ fn stack(way: Way, at: u64) -> Option<Access>
     Some(Access { way, at, len: 8 })
 }
 
-/// The access to memory that an instruction of `len` bytes makes, where it makes one; `ctx` is the context before it.
-///
-/// That of IRETQ and LIDT, which pop five numbers and read ten bytes, is left to whoever runs them.
+// An access to an operand in memory.
+#[inline(always)]
+#[tactic(auto, using(crate::proofs::Passed::as_before), unfolding(crate::specs::Access::access_to))]
+fn operand(ctx: &Ctx, len: u8, way: Way, width: Width, mem: &Mem) -> Option<Access>
+    ensures result { result ≡ spec.access_to (passed ctx.now len) (Touch.Operand way width mem.now) }
+    ensures length { IfSome result (λ access. spec.IsLength access.len) }
+    ensures some { IfSome result (λ access. 1 ≤ access.len) }
+    ensures most { IfSome result (λ access. access.len ≤ 8) }
+{
+    Some(Access {
+        way,
+        at: address_behind(ctx, len, mem),
+        len: bytes_of(width),
+    })
+}
+
+// The access by what an instruction touches.
 #[inline(always)]
 #[tactic(auto, using(crate::proofs::Passed::as_before), unfolding(crate::specs::Access::access_to, crate::specs::Access::access_of))]
-pub fn access_of(ctx: &Ctx, insn: &Insn, len: u8) -> Option<Access>
+fn access_by_touch(ctx: &Ctx, insn: &Insn, len: u8) -> Option<Access>
     ensures result { result ≡ spec.access_of ctx.now insn.now len }
     ensures length { IfSome result (λ access. spec.IsLength access.len) }
     ensures some { IfSome result (λ access. 1 ≤ access.len) }
@@ -65,14 +80,35 @@ pub fn access_of(ctx: &Ctx, insn: &Insn, len: u8) -> Option<Access>
 {
     match touched(insn) {
         Touch::Nothing | Touch::System => None,
-        Touch::Operand(way, width, mem) => Some(Access {
-            way,
-            at: address_behind(ctx, len, &mem),
-            len: bytes_of(width),
-        }),
+        Touch::Operand(way, width, mem) => operand(ctx, len, way, width, &mem),
         Touch::Push => stack(Way::Store, top_of(ctx)),
         Touch::Pop => stack(Way::Load, register(ctx, SP)),
         Touch::Frame => stack(Way::Load, register(ctx, BP)),
+    }
+}
+
+/// The access to memory that an instruction of `len` bytes makes, where it makes one; `ctx` is the context before it.
+///
+/// That of IRETQ and LIDT, which pop five numbers and read ten bytes, is left to whoever runs them.
+#[inline(always)]
+#[tactic(auto, unfolding(crate::specs::Access::access_of, crate::specs::Table::line, crate::specs::Touch::with_source, crate::specs::Touch::operand, crate::specs::Touch::either, crate::specs::Touch::in_memory, crate::specs::Touch::source_in_memory))]
+pub fn access_of(ctx: &Ctx, insn: &Insn, len: u8) -> Option<Access>
+    ensures result { result ≡ spec.access_of ctx.now insn.now len }
+    ensures length { IfSome result (λ access. spec.IsLength access.len) }
+    ensures some { IfSome result (λ access. 1 ≤ access.len) }
+    ensures most { IfSome result (λ access. access.len ≤ 8) }
+{
+    // The two that guests run most have no copy of their operand made.
+    match &insn.op {
+        Op::Mov(Loc::Mem(mem), _) => operand(ctx, len, Way::Store, insn.width, mem),
+        Op::Mov(Loc::Reg(_), Src::Loc(Loc::Mem(mem))) => operand(
+            ctx,
+            len,
+            Way::Load,
+            insn.width,
+            mem,
+        ),
+        _ => access_by_touch(ctx, insn, len),
     }
 }
 
