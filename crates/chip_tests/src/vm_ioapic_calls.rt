@@ -34,43 +34,87 @@ fn with_pin_5(low: u32, high: u32) -> Ioapic {
     chip
 }
 
-/// Asserts a pin once more.
-fn raise(rt: &impl Abort, chip: &mut Ioapic, pin: u8) -> Option<Message> {
-    assert!(rt; pin < 32);
-    assert!(rt; chip.count(pin) < u32::MAX);
-    chip.raise(pin)
+/// A call, and what it gives.
+#[derive(Drop)]
+enum Step {
+    /// A pin is asserted once more, and sends this message.
+    Raise(u8, Option<Message>),
+    /// A pin is asserted once less.
+    Lower(u8),
+    /// An interrupt has ended, and these messages are sent.
+    Eoi(u8, [Option<Message>; 2]),
+    Read(u8, u32),
+    /// A write, and the message that it sends.
+    Write(u8, u32, Option<Message>),
+    /// A write, and whether the routing changes.
+    Route(u8, u32, bool),
+    /// A write, and all that follows from it.
+    Change(u8, u32, RteChange),
 }
 
-/// Asserts a pin once less.
-fn lower(rt: &impl Abort, chip: &mut Ioapic, pin: u8) {
-    assert!(rt; pin < 32);
-    assert!(rt; chip.count(pin) > 0);
+fn lower(chip: &mut Ioapic, pin: u8) -> bool {
+    if pin >= 32 || chip.count(pin) == 0 {
+        return false;
+    }
     chip.lower(pin);
+    true
 }
 
-fn fixed(vector: u8, dest: Dest) -> Message {
-    Message {
-        vector,
-        mode: Mode::Fixed,
-        dest,
+/// Whether these are the messages, in this order.
+fn are(messages: &[Message], want: &[Option<Message>; 2]) -> bool {
+    messages.len() <= 2
+        && messages.get(0).copied() == want[0]
+        && messages.get(1).copied() == want[1]
+}
+
+/// Whether a write changes the routing as it was told that it would.
+fn routes(chip: &mut Ioapic, index: u8, value: u32, want: bool) -> bool {
+    chip.write(SELECT, index as u32);
+    chip.would_route(WINDOW, value) == want && chip.write(WINDOW, value).routing == want
+}
+
+fn holds(chip: &mut Ioapic, step: &Step) -> bool {
+    match step {
+        Step::Raise(pin, want) => {
+            *pin < 32 && chip.count(*pin) < u32::MAX && chip.raise(*pin) == *want
+        }
+        Step::Lower(pin) => lower(chip, *pin),
+        Step::Eoi(vector, want) => are(chip.eoi(*vector).as_slice(), want),
+        Step::Read(index, want) => read(chip, *index) == *want,
+        Step::Write(index, value, want) => write(chip, *index, *value).message == *want,
+        Step::Route(index, value, want) => routes(chip, *index, *value, *want),
+        Step::Change(index, value, want) => write(chip, *index, *value) == *want,
     }
 }
 
+fn run(rt: &impl Abort, chip: &mut Ioapic, steps: &[Step]) {
+    for (k, step) in steps.iter().enumerate() {
+        assert!(rt; holds(chip, step), "step {k}");
+    }
+}
+
+const TO_FIRST: Message = Message {
+    vector: 0x31,
+    mode: Mode::Fixed,
+    dest: Dest::One(0),
+};
+
 /// A level pin that is raised twice and lowered once is still asserted: its EOI sends again, until it is lowered.
+const LEVEL_PIN: [Step; 9] = [
+    Step::Raise(5, Some(TO_FIRST)),
+    Step::Raise(5, None),
+    Step::Read(0x1A, LEVEL | 0x4031),
+    Step::Lower(5),
+    Step::Eoi(0x30, [None, None]),
+    Step::Eoi(0x31, [Some(TO_FIRST), None]),
+    Step::Lower(5),
+    Step::Eoi(0x31, [None, None]),
+    Step::Read(0x1A, LEVEL | 0x31),
+];
+
 #[test]
 fn level_pin(rt: HostRuntime) {
-    let mut chip = with_pin_5(LEVEL | 0x31, 0);
-    let message = fixed(0x31, Dest::One(0));
-    assert!(rt; raise(&rt, &mut chip, 5) == Some(message));
-    assert!(rt; raise(&rt, &mut chip, 5) == None);
-    assert_eq!(rt; read(&mut chip, 0x1A), LEVEL | 0x4031);
-    lower(&rt, &mut chip, 5);
-    assert!(rt; chip.eoi(0x30).as_slice().is_empty());
-    let again = chip.eoi(0x31);
-    assert!(rt; again.as_slice().len() == 1 && again.as_slice()[0] == message);
-    lower(&rt, &mut chip, 5);
-    assert!(rt; chip.eoi(0x31).as_slice().is_empty());
-    assert_eq!(rt; read(&mut chip, 0x1A), LEVEL | 0x31);
+    run(&rt, &mut with_pin_5(LEVEL | 0x31, 0), &LEVEL_PIN);
 }
 
 /// Each register at reset, and after every bit was written to it.
@@ -99,20 +143,44 @@ fn registers(rt: HostRuntime) {
     assert_eq!(rt; chip.read(0x20), 0);
 }
 
+const TO_ALL: Message = Message {
+    vector: 0x42,
+    mode: Mode::Fixed,
+    dest: Dest::All,
+};
+
 /// A masked edge is lost; a masked level pin sends once it is unmasked; an edge pin has no remote IRR.
+const MASKS: [Step; 9] = [
+    Step::Raise(5, None),
+    Step::Write(0x1A, 0x42, None),
+    Step::Lower(5),
+    Step::Raise(5, Some(TO_ALL)),
+    Step::Write(0x1A, LEVEL | MASKED | 0x42, None),
+    Step::Change(
+        0x1A,
+        LEVEL | 0x42,
+        RteChange {
+            routing: false,
+            message: Some(TO_ALL),
+        },
+    ),
+    Step::Read(0x1A, LEVEL | 0x4042),
+    Step::Route(0x1A, 0x42, true),
+    Step::Read(0x1A, 0x42),
+];
+
 #[test]
 fn masks(rt: HostRuntime) {
-    let mut chip = with_pin_5(MASKED | 0x42, 0xFF00_0000);
-    assert!(rt; raise(&rt, &mut chip, 5) == None);
-    assert!(rt; write(&mut chip, 0x1A, 0x42).message == None);
-    lower(&rt, &mut chip, 5);
-    assert!(rt; raise(&rt, &mut chip, 5) == Some(fixed(0x42, Dest::All)));
-    assert!(rt; write(&mut chip, 0x1A, LEVEL | MASKED | 0x42).message == None);
-    let change = write(&mut chip, 0x1A, LEVEL | 0x42);
-    assert!(rt; change.message == Some(fixed(0x42, Dest::All)) && !change.routing);
-    assert_eq!(rt; read(&mut chip, 0x1A), LEVEL | 0x4042);
-    assert!(rt; write(&mut chip, 0x1A, 0x42).routing);
-    assert_eq!(rt; read(&mut chip, 0x1A), 0x42);
+    run(&rt, &mut with_pin_5(MASKED | 0x42, 0xFF00_0000), &MASKS);
+}
+
+/// The message of a pin whose destination is the vCPU of its number.
+fn of_pin(pin: u8) -> Message {
+    Message {
+        vector: 0x50,
+        mode: Mode::Fixed,
+        dest: Dest::One(pin),
+    }
 }
 
 /// An EOI sends again at each pin that is still asserted, by ascending pin.
@@ -120,15 +188,18 @@ fn masks(rt: HostRuntime) {
 fn eoi_by_ascending_pin(rt: HostRuntime) {
     let mut chip = Ioapic::new();
     for pin in [31u8, 3, 7] {
-        write(&mut chip, 0x11 + 2 * pin, (pin as u32) << 24);
-        write(&mut chip, 0x10 + 2 * pin, LEVEL | 0x50);
-        assert!(rt; raise(&rt, &mut chip, pin) == Some(fixed(0x50, Dest::One(pin))));
+        let steps = [
+            Step::Write(0x11 + 2 * pin, (pin as u32) << 24, None),
+            Step::Write(0x10 + 2 * pin, LEVEL | 0x50, None),
+            Step::Raise(pin, Some(of_pin(pin))),
+        ];
+        run(&rt, &mut chip, &steps);
     }
-    lower(&rt, &mut chip, 7);
-    let messages = chip.eoi(0x50);
-    let sent = messages.as_slice();
-    assert_eq!(rt; sent.len(), 2);
-    assert!(rt; sent[0] == fixed(0x50, Dest::One(3)) && sent[1] == fixed(0x50, Dest::One(31)));
+    let steps = [
+        Step::Lower(7),
+        Step::Eoi(0x50, [Some(of_pin(3)), Some(of_pin(31))]),
+    ];
+    run(&rt, &mut chip, &steps);
 }
 
 /// The delivery mode and the destination of a message.
@@ -142,48 +213,57 @@ fn destinations(rt: HostRuntime) {
         (LOGICAL | 0x031, 0xFF00_0000, Mode::Fixed, Dest::Nobody),
     ];
     for (low, high, mode, dest) in rows {
-        let mut chip = with_pin_5(low, high);
         let message = Message {
             vector: 0x31,
             mode,
             dest,
         };
-        assert!(rt; raise(&rt, &mut chip, 5) == Some(message));
+        let steps = [Step::Raise(5, Some(message))];
+        run(&rt, &mut with_pin_5(low, high), &steps);
     }
 }
 
-/// A change of polarity or mask alone doesn't change the routing; the TMR has the level entries, masked or not.
+/// A change of polarity or mask alone doesn't change the routing.
+const ROUTING: [Step; 6] = [
+    Step::Route(0x1A, LEVEL | MASKED | ACTIVE_LOW | 0x31, false),
+    Step::Route(0x1A, LEVEL | 0x31, false),
+    Step::Route(0x1A, LEVEL | 0x32, true),
+    Step::Route(0x1A, LEVEL | 0x132, true),
+    Step::Route(0x1B, 0x01FF_FFFF, false),
+    Step::Route(0x1B, 0x0200_0000, true),
+];
+
+/// The TMR has the level entries, masked or not.
 #[test]
 fn routing(rt: HostRuntime) {
     let mut chip = with_pin_5(LEVEL | MASKED | 0x31, 0x0100_0000);
-    let rows: [(u8, u32, bool); 6] = [
-        (0x1A, LEVEL | MASKED | ACTIVE_LOW | 0x31, false),
-        (0x1A, LEVEL | 0x31, false),
-        (0x1A, LEVEL | 0x32, true),
-        (0x1A, LEVEL | 0x132, true),
-        (0x1B, 0x01FF_FFFF, false),
-        (0x1B, 0x0200_0000, true),
-    ];
-    for (index, value, routing) in rows {
-        chip.write(SELECT, index as u32);
-        assert_eq!(rt; chip.would_route(WINDOW, value), routing);
-        assert_eq!(rt; chip.write(WINDOW, value).routing, routing);
-    }
-    assert!(rt; chip.tmr(2, 4).has(0x32) && !chip.tmr(2, 4).has(0x31));
+    run(&rt, &mut chip, &ROUTING);
+    let tmr = chip.tmr(2, 4);
+    assert!(rt; tmr.has(0x32) && !tmr.has(0x31));
     assert!(rt; chip.tmr(1, 4).highest().is_none() && chip.tmr(2, 2).highest().is_none());
 }
+
+const TO_THIRD: Message = Message {
+    vector: 0x31,
+    mode: Mode::Fixed,
+    dest: Dest::One(3),
+};
+
+const BEFORE: [Step; 2] = [
+    Step::Write(0, 0x0500_0000, None),
+    Step::Raise(5, Some(TO_THIRD)),
+];
 
 /// A saved chip is the chip.
 #[test]
 fn saved(rt: HostRuntime) {
     let mut chip = with_pin_5(LEVEL | ACTIVE_LOW | 0x31, 0x0300_0000);
-    write(&mut chip, 0, 0x0500_0000);
-    raise(&rt, &mut chip, 5);
+    run(&rt, &mut chip, &BEFORE);
     let state = chip.saved();
     assert_eq!(rt; state.entries[5], 0x0300_0000_0000_E031);
     assert_eq!(rt; state.entries[4], 0x0001_0000);
     assert!(rt; state.counts[5] == 1 && state.id == 0x0500_0000 && state.select == 0);
     let mut other = Ioapic::from_saved(&state).copy();
     assert!(rt; other.saved() == state);
-    assert_eq!(rt; other.eoi(0x31).as_slice().len(), 1);
+    run(&rt, &mut other, &[Step::Eoi(0x31, [Some(TO_THIRD), None])]);
 }

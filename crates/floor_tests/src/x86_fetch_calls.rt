@@ -1,6 +1,9 @@
+ghost use Rattle.std.specs.Prelude.{◌≤◌};
+
 use guest_ram::GuestRam;
 use std::test::Fail;
 use vm_law::{Bytes, Ctx, FlatImage, Seq};
+use x86_exec::{NotDone, Stored};
 use x86_fetch::{
     CachedRam, Code, Next, Table, all_local, keep_at, look_local, next_of, run_many, run_slice,
     stands_local, step_local, writes_change_only,
@@ -101,5 +104,42 @@ fn cached_memory(rt: HostRuntime) -> Result<(), Fail> {
     let mut third = START;
     assert!(rt; copy.run_slice(&mut third, 1) == 1 && third.regs[0] == 9);
     assert!(rt; ram.page(0).is_some() && copy.page(1).is_none());
+    Ok(())
+}
+
+/// mov byte [9], 7; mov eax, 5; hlt. The first writes the operand of the second.
+const STORING: [u8; 14] = [0xC6, 0x04, 0x25, 9, 0, 0, 0, 7, 0xB8, 5, 0, 0, 0, 0xF4];
+
+/// What `share_done` answers at an address, and where RIP is afterwards.
+fn shared(ram: &mut CachedRam, rip: u64) -> (Result<Option<Stored>, NotDone>, u64)
+    requires { 2 ≤ ram.old.spare }
+{
+    let mut ctx = START;
+    ctx.rip = rip;
+    let done = ram.share_done(&mut ctx);
+    (done, ctx.rip)
+}
+
+/// An instruction that stores into the code, where it stands; one that asks something; a local one; the end of the code.
+#[test]
+fn an_instruction_in_place(rt: HostRuntime) -> Result<(), Fail> {
+    let image = FlatImage {
+        entry: 0,
+        code: 14,
+        payload: Seq::from_slice(rt.alloc(), &STORING)?,
+    };
+    let mut ram = CachedRam::new(rt.alloc(), 1048576, &image)?;
+    let mut ctx = START;
+    ctx.rip = 8;
+    assert!(rt; matches!(ram.next_kept(&ctx), Next::Local { len: 5, .. }));
+    ram.reserve(rt.alloc(), 8)?;
+    assert!(rt; shared(&mut ram, 0) == (Ok(Some(Stored { at: 9, len: 1 })), 8));
+    assert!(rt; ram.run_slice(&mut ctx, 9) == 1 && ctx.regs[0] == 7);
+    ram.reserve(rt.alloc(), 8)?;
+    assert!(rt; shared(&mut ram, 13) == (Err(NotDone), 13));
+    ram.reserve(rt.alloc(), 8)?;
+    assert!(rt; shared(&mut ram, 8) == (Err(NotDone), 8));
+    ram.reserve(rt.alloc(), 8)?;
+    assert!(rt; shared(&mut ram, 14) == (Err(NotDone), 14));
     Ok(())
 }

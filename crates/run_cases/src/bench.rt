@@ -56,6 +56,14 @@ fn bring(run: &mut Run, signed: &Signed) -> Result<bool, CaseError> {
     }
 }
 
+/// An entry that must not be lawful. The call that tells and makes it leaves it out.
+fn refuse(alloc: Global, run: &mut Run, signed: &Signed) -> Result<bool, CaseError> {
+    if run.may(signed.by, &signed.entry) {
+        return Ok(false);
+    }
+    Ok(!advance(alloc, run, signed)?)
+}
+
 /// The greatest Slice of a vCPU, which must be lawful.
 fn bring_greatest(run: &mut Run, signed: &Signed) -> Result<bool, CaseError> {
     let Entry::Slice { cpu, n } = signed.entry else {
@@ -71,6 +79,32 @@ fn bring_greatest(run: &mut Run, signed: &Signed) -> Result<bool, CaseError> {
     }
     run.put_slice(signed.by, cpu, n, ctx);
     Ok(true)
+}
+
+/// Makes or refuses an entry, and says whether it was as it must be.
+fn make(alloc: Global, run: &mut Run, how: &str, signed: &Signed) -> Result<bool, CaseError> {
+    match how {
+        "not" => refuse(alloc, run, signed),
+        "at_once" => advance(alloc, run, signed),
+        "brought" => bring(run, signed),
+        "greatest" => bring_greatest(run, signed),
+        _ => go(alloc, run, signed),
+    }
+}
+
+/// What is told of a case each part of which was as it must be.
+fn count_told(alloc: Global, compared: u64) -> Result<String, CaseError> {
+    Ok(format!(in alloc; "ok {compared}")?)
+}
+
+/// What is told of a part that isn't as it must be.
+fn difference(alloc: Global, part: &str, gave: &str) -> Result<String, CaseError> {
+    Ok(format!(in alloc; "differs: {part} gave {gave}")?)
+}
+
+/// What is told of a line that can't be carried out.
+fn fault(alloc: Global, error: &CaseError, line: &str) -> Result<String, CaseError> {
+    Ok(format!(in alloc; "{error}: {line}")?)
 }
 
 impl Bench {
@@ -91,14 +125,7 @@ impl Bench {
     /// Makes or refuses an entry, and says whether it was as it must be.
     fn entry(&mut self, alloc: Global, how: &str, text: &str) -> Result<bool, CaseError> {
         let signed = entry_of(text)?;
-        let run = self.run()?;
-        match how {
-            "not" => Ok(!run.may(signed.by, &signed.entry) && !advance(alloc, run, &signed)?),
-            "at_once" => advance(alloc, run, &signed),
-            "brought" => bring(run, &signed),
-            "greatest" => bring_greatest(run, &signed),
-            _ => go(alloc, run, &signed),
-        }
+        make(alloc, self.run()?, how, &signed)
     }
 
     /// Makes an entry so many times, and says whether it was lawful each time.
@@ -124,18 +151,26 @@ impl Bench {
         Ok(gave.as_str() == want)
     }
 
+    /// A copy of the run, or a run from its machine.
+    fn another(&self, alloc: Global, how: &str) -> Result<Run, CaseError> {
+        let Some(run) = &self.run else {
+            return Err(CaseError::Form);
+        };
+        match how {
+            "copy" => Ok(run.copy(alloc)?),
+            "restore" => self.setup.restore(alloc, run),
+            _ => Err(CaseError::Form),
+        }
+    }
+
     /// Begins anew: from an image, from the machine of this run, or from a copy of it.
     fn begin(&mut self, alloc: Global, how: &str) -> Result<bool, CaseError> {
-        let run = match how {
-            "begin" => self.setup.begin(alloc)?,
-            "copy" => self.run()?.copy(alloc)?,
-            "restore" => {
-                let run = self.run.as_ref().ok_or(CaseError::Form)?;
-                self.setup.restore(alloc, run)?
-            }
-            _ => return Err(CaseError::Form),
+        let run = if how == "begin" {
+            self.setup.begin(alloc)
+        } else {
+            self.another(alloc, how)
         };
-        self.run = Some(run);
+        self.run = Some(run?);
         Ok(true)
     }
 
@@ -162,18 +197,26 @@ impl Bench {
         self.entry(alloc, how, text)
     }
 
+    /// Carries out a part of a line, says whether it was as it must be, and keeps what it gave where it wasn't.
+    fn take(&mut self, alloc: Global, part: &str) -> Result<bool, CaseError> {
+        let mut gave = String::new(alloc);
+        if self.carry_out(alloc, part, &mut gave)? {
+            self.compared = self.compared.saturating_add(1);
+            return Ok(true);
+        }
+        self.differs = Some(difference(alloc, part, gave.as_str())?);
+        Ok(false)
+    }
+
     /// Carries out a line of a case. What comes behind the first part that isn't as it must be is left out.
     fn try_line(&mut self, alloc: Global, line: &str) -> Result<(), CaseError> {
         if self.differs.is_some() || self.setup.take(alloc, line)? {
             return Ok(());
         }
         for part in line.split(", ") {
-            let mut gave = String::new(alloc);
-            if !self.carry_out(alloc, part, &mut gave)? {
-                self.differs = Some(format!(in alloc; "differs: {part} gave {gave}")?);
+            if !self.take(alloc, part)? {
                 return Ok(());
             }
-            self.compared = self.compared.saturating_add(1);
         }
         Ok(())
     }
@@ -184,7 +227,7 @@ impl Bench {
             Ok(()) => Ok(()),
             Err(CaseError::Memory) => Err(CaseError::Memory),
             Err(error) => {
-                self.differs = Some(format!(in alloc; "{error}: {line}")?);
+                self.differs = Some(fault(alloc, &error, line)?);
                 Ok(())
             }
         }
@@ -192,14 +235,12 @@ impl Bench {
 
     /// What became of the case, which ends. Its start stands until another one is begun.
     pub fn end(&mut self, alloc: Global) -> Result<String, CaseError> {
-        let compared = self.compared;
-        let told = match &self.differs {
-            Some(text) => format!(in alloc; "{text}")?,
-            None => format!(in alloc; "ok {compared}")?,
+        let told = match self.differs.take() {
+            Some(text) => text,
+            None => count_told(alloc, self.compared)?,
         };
         self.run = None;
         self.compared = 0;
-        self.differs = None;
         Ok(told)
     }
 }

@@ -1,7 +1,7 @@
 //! What is looked up of a vCPU.
 
 use crate::case::{CaseError, byte, dword};
-use crate::print::{bit, print_stage, print_vectors};
+use crate::print::{bit, print_count, print_hex, print_stage, print_vectors};
 use std::alloc::AllocError;
 use std::fmt::Write;
 use vm_law::Ctx;
@@ -31,7 +31,7 @@ fn parts(ctx: &Ctx) -> [u64; 22] {
 fn look_context(cpu: &Cpu, name: &str, out: &mut String) -> Result<bool, AllocError> {
     match NAMES.iter().position(|known| *known == name) {
         Some(number) if number < 22 => {
-            write!(out, "0x{:x}", parts(&cpu.ctx)[number])?;
+            print_hex(parts(&cpu.ctx)[number], out)?;
             Ok(true)
         }
         _ => Ok(false),
@@ -41,14 +41,15 @@ fn look_context(cpu: &Cpu, name: &str, out: &mut String) -> Result<bool, AllocEr
 /// A part of the local APIC.
 fn look_apic(cpu: &Cpu, name: &str, out: &mut String) -> Result<bool, AllocError> {
     let state = cpu.lapic.saved();
-    match name {
-        "irr" => print_vectors(&state.irr, out)?,
-        "isr" => print_vectors(&state.isr, out)?,
-        "tmr" => print_vectors(&state.tmr, out)?,
-        "tpr" => write!(out, "0x{:x}", state.tpr)?,
-        "svr" => write!(out, "0x{:x}", state.svr)?,
+    let printed = match name {
+        "irr" => print_vectors(&state.irr, out),
+        "isr" => print_vectors(&state.isr, out),
+        "tmr" => print_vectors(&state.tmr, out),
+        "tpr" => print_hex(u64::from(state.tpr), out),
+        "svr" => print_hex(u64::from(state.svr), out),
         _ => return Ok(false),
-    }
+    };
+    printed?;
     Ok(true)
 }
 
@@ -61,14 +62,15 @@ fn print_startup(startup: Option<u8>, out: &mut String) -> Result<(), AllocError
 
 /// What a vCPU is at.
 fn look_stage(cpu: &Cpu, name: &str, out: &mut String) -> Result<bool, AllocError> {
-    match name {
-        "stage" => print_stage(cpu.stage.now(), out)?,
-        "started" => out.push_str(bit(cpu.started))?,
-        "halted" => out.push_str(bit(cpu.halted))?,
-        "nmi" => out.push_str(bit(cpu.nmi))?,
-        "startup" => print_startup(cpu.startup, out)?,
+    let printed = match name {
+        "stage" => print_stage(cpu.stage.now(), out),
+        "started" => out.push_str(bit(cpu.started)),
+        "halted" => out.push_str(bit(cpu.halted)),
+        "nmi" => out.push_str(bit(cpu.nmi)),
+        "startup" => print_startup(cpu.startup, out),
         _ => return Ok(false),
-    }
+    };
+    printed?;
     Ok(true)
 }
 
@@ -77,15 +79,27 @@ fn look_seat(run: &Run, name: &str, i: u8, out: &mut String) -> Result<bool, All
     if i >= run.cpu_count() {
         return Ok(false);
     }
-    match name {
-        "deliverable" => out.push_str(bit(run.deliverable(i)))?,
-        "eager" => out.push_str(bit(run.eager(i)))?,
-        "due" => out.push_str(bit(run.exit_due(i)))?,
-        "left" => write!(out, "{}", run.left(i))?,
-        "ran" => write!(out, "{}", run.ran(i))?,
+    let printed = match name {
+        "deliverable" => out.push_str(bit(run.deliverable(i))),
+        "eager" => out.push_str(bit(run.eager(i))),
+        "due" => out.push_str(bit(run.exit_due(i))),
+        "left" => print_count(u64::from(run.left(i)), out),
+        "ran" => print_count(run.ran(i), out),
         _ => return Ok(false),
-    }
+    };
+    printed?;
     Ok(true)
+}
+
+/// A register of the local APIC.
+fn print_register(cpu: &Cpu, offset: u64, out: &mut String) -> Result<(), CaseError> {
+    let value = cpu.lapic.read(dword(offset)?);
+    Ok(print_hex(u64::from(value), out)?)
+}
+
+/// What a vCPU of a machine has.
+fn look_state(cpu: &Cpu, name: &str, out: &mut String) -> Result<bool, AllocError> {
+    Ok(look_context(cpu, name, out)? || look_apic(cpu, name, out)? || look_stage(cpu, name, out)?)
 }
 
 /// Prints what a vCPU has under a name, where there is such a thing.
@@ -102,18 +116,12 @@ pub fn look_cpu(
         return Ok(false);
     }
     if name == "apic" {
-        write!(out, "0x{:x}", run.cpu(i).lapic.read(dword(numbers[1])?))?;
+        print_register(run.cpu(i), numbers[1], out)?;
         return Ok(true);
     }
     if name == "timer" && i < 16 {
-        write!(out, "{}", run.machine().timers.left(i))?;
+        print_count(run.machine().timers.left(i), out)?;
         return Ok(true);
     }
-    let cpu = run.cpu(i);
-    Ok(
-        look_context(cpu, name, out)?
-            || look_apic(cpu, name, out)?
-            || look_stage(cpu, name, out)?
-            || look_seat(run, name, i, out)?,
-    )
+    Ok(look_state(run.cpu(i), name, out)? || look_seat(run, name, i, out)?)
 }

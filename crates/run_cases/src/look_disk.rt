@@ -1,7 +1,7 @@
 //! What is looked up of a disk.
 
 use crate::case::{CaseError, byte, dword};
-use crate::print::{bit, close, part, print_bytes, print_marks};
+use crate::print::{bit, close, part, print_bytes, print_count, print_hex, print_marks};
 use blk_queue::{BlkQueue, Progress};
 use std::alloc::AllocError;
 use std::fmt::Write;
@@ -70,13 +70,28 @@ fn look_drive(
 ) -> Result<bool, CaseError> {
     match name {
         "guest" => print_range(drive.bytes.as_slice(), numbers[1], numbers[2], out)?,
-        "requests" => print_requests(&drive.queue, out)?,
-        "next" => write!(out, "{}", drive.queue.next())?,
-        "window" => write!(out, "0x{:x}", drive.window.read(dword(numbers[1])?))?,
-        "notified" => out.push_str(bit(drive.window.is_notified()))?,
-        _ => return Ok(false),
+        "window" => print_register(drive, numbers[1], out)?,
+        _ => return Ok(look_queue(drive, name, out)?),
     }
     Ok(true)
+}
+
+/// What a drive has to do.
+fn look_queue(drive: &Drive, name: &str, out: &mut String) -> Result<bool, AllocError> {
+    let printed = match name {
+        "requests" => print_requests(&drive.queue, out),
+        "next" => print_count(u64::from(drive.queue.next()), out),
+        "notified" => out.push_str(bit(drive.window.is_notified())),
+        _ => return Ok(false),
+    };
+    printed?;
+    Ok(true)
+}
+
+/// A register of a drive's window.
+fn print_register(drive: &Drive, offset: u64, out: &mut String) -> Result<(), CaseError> {
+    let value = drive.window.read(dword(offset)?);
+    Ok(print_hex(u64::from(value), out)?)
 }
 
 /// A part of a disk's image.
@@ -86,12 +101,21 @@ fn look_image(
     numbers: &[u64; 3],
     out: &mut String,
 ) -> Result<bool, CaseError> {
-    match name {
-        "image" => print_range(image.bytes.as_slice(), numbers[1], numbers[2], out)?,
-        "doubt" => print_marks(image.doubt.as_slice(), out)?,
-        "holder" => print_holder(image.holder, out)?,
-        _ => return Ok(false),
+    if name == "image" {
+        print_range(image.bytes.as_slice(), numbers[1], numbers[2], out)?;
+        return Ok(true);
     }
+    Ok(look_marks(image, name, out)?)
+}
+
+/// What is known of a disk's image.
+fn look_marks(image: &DiskImage, name: &str, out: &mut String) -> Result<bool, AllocError> {
+    let printed = match name {
+        "doubt" => print_marks(image.doubt.as_slice(), out),
+        "holder" => print_holder(image.holder, out),
+        _ => return Ok(false),
+    };
+    printed?;
     Ok(true)
 }
 

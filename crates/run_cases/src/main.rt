@@ -53,17 +53,22 @@ fn outcome(alloc: Global, bench: &mut Bench, line: &str) -> Result<Option<String
     Ok(None)
 }
 
+/// Carries out a line, and prints what it gives.
+fn answer<W: Write>(alloc: Global, bench: &mut Bench, line: &str, out: &mut W) -> io::Result<()> {
+    match outcome(alloc, bench, line) {
+        Ok(None) => Ok(()),
+        Ok(Some(text)) => writeln!(out, "{text}"),
+        Err(error) => writeln!(out, "{error}"),
+    }
+}
+
 /// Carries out each line of input, and prints what it gives.
 fn carry_out(rt: &HostRuntime, bench: &mut Bench) -> io::Result<()> {
     let alloc = rt.alloc();
     let mut out = BufWriter::new(alloc, io::writer(rt))?;
     for line in BufReader::new(alloc, rt.reader())?.lines(alloc) {
         let line = line?;
-        match outcome(alloc, bench, line.as_str()) {
-            Ok(None) => {}
-            Ok(Some(text)) => writeln!(out, "{text}")?,
-            Err(error) => writeln!(out, "{error}")?,
-        }
+        answer(alloc, bench, line.as_str(), &mut out)?;
     }
     out.flush()
 }

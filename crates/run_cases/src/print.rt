@@ -9,6 +9,15 @@ pub fn bit(set: bool) -> &'static str {
     if set { "1" } else { "0" }
 }
 
+pub fn print_count(count: u64, out: &mut String) -> Result<(), AllocError> {
+    write!(out, "{count}")
+}
+
+/// A value in hexadecimal.
+pub fn print_hex(value: u64, out: &mut String) -> Result<(), AllocError> {
+    write!(out, "0x{value:x}")
+}
+
 /// The stage of a vCPU, and the pass that owns it.
 pub fn print_stage(stage: Owned, out: &mut String) -> Result<(), AllocError> {
     match stage {
@@ -75,7 +84,7 @@ pub fn print_said(said: Said, out: &mut String) -> Result<(), AllocError> {
     match said {
         Said::Met => out.push_str("met"),
         Said::Quiet => out.push_str("quiet"),
-        Said::Value(value) => write!(out, "0x{value:x}"),
+        Said::Value(value) => print_hex(value, out),
         Said::Done => out.push_str("done"),
         Said::Unknown => out.push_str("unknown"),
         Said::Busy => out.push_str("busy"),
@@ -167,59 +176,80 @@ pub fn order_name(order: Option<&Order>) -> &'static str {
     }
 }
 
-fn print_end(why: EndCause, out: &mut String) -> Result<(), AllocError> {
-    out.push_str(match why {
-        EndCause::Budget => "budget",
-        EndCause::Outside => "outside",
-    })
+/// How an entry is spelled: its name, and its numbers.
+type Spelled = (&'static str, Option<u64>, Option<u64>);
+
+fn bare(name: &'static str) -> Spelled {
+    (name, None, None)
 }
 
-/// An entry of a vCPU or of control.
-fn print_plain(entry: Entry, out: &mut String) -> Result<(), AllocError> {
-    match entry {
-        Entry::Claim { cpu } => write!(out, "claim {cpu}"),
-        Entry::Start { cpu } => write!(out, "start {cpu}"),
-        Entry::Enter { cpu, grant } => write!(out, "enter {cpu} {grant}"),
-        Entry::Slice { cpu, n } => write!(out, "slice {cpu} {n}"),
-        Entry::Step { cpu } => write!(out, "step {cpu}"),
-        Entry::Exit { cpu } => write!(out, "exit {cpu}"),
-        Entry::Sleep { cpu } => write!(out, "sleep {cpu}"),
-        Entry::Wake { cpu } => write!(out, "wake {cpu}"),
-        Entry::Yield { cpu } => write!(out, "yield {cpu}"),
-        Entry::Turn { cpu } => write!(out, "turn {cpu}"),
-        Entry::Meet => out.push_str("meet"),
-        Entry::Feed => out.push_str("feed"),
-        Entry::Wish => out.push_str("wish"),
-        Entry::Done { k } => write!(out, "done {k}"),
-        Entry::Close => out.push_str("close"),
-        Entry::Tick { n } => write!(out, "tick {n}"),
-        Entry::End { why } => print_end(why, out),
-        other => print_disk(other, out),
-    }
+/// An entry of a vCPU or of a disk's worker.
+fn of_one(name: &'static str, place: u8) -> Spelled {
+    (name, Some(u64::from(place)), None)
 }
 
-/// An entry of a worker.
-fn print_disk(entry: Entry, out: &mut String) -> Result<(), AllocError> {
+fn of_request(name: &'static str, disk: u8, id: u32) -> Spelled {
+    (name, Some(u64::from(disk)), Some(u64::from(id)))
+}
+
+fn counted(name: &'static str, cpu: u8, count: u16) -> Spelled {
+    (name, Some(u64::from(cpu)), Some(u64::from(count)))
+}
+
+/// An entry, as a case spells it.
+fn spelled(entry: Entry) -> Spelled {
     match entry {
-        Entry::Pull { disk } => write!(out, "pull {disk}"),
-        Entry::Begin { disk, id } => write!(out, "begin {disk} {id}"),
-        Entry::Move { disk, id } => write!(out, "move {disk} {id}"),
-        Entry::Hold { disk, id } => write!(out, "hold {disk} {id}"),
-        Entry::Put { disk, id, ok: true } => write!(out, "put {disk} {id}"),
+        Entry::Claim { cpu } => of_one("claim", cpu),
+        Entry::Start { cpu } => of_one("start", cpu),
+        Entry::Enter { cpu, grant } => counted("enter", cpu, grant),
+        Entry::Slice { cpu, n } => counted("slice", cpu, n),
+        Entry::Step { cpu } => of_one("step", cpu),
+        Entry::Exit { cpu } => of_one("exit", cpu),
+        Entry::Sleep { cpu } => of_one("sleep", cpu),
+        Entry::Wake { cpu } => of_one("wake", cpu),
+        Entry::Yield { cpu } => of_one("yield", cpu),
+        Entry::Turn { cpu } => of_one("turn", cpu),
+        Entry::Meet => bare("meet"),
+        Entry::Pull { disk } => of_one("pull", disk),
+        Entry::Begin { disk, id } => of_request("begin", disk, id),
+        Entry::Move { disk, id } => of_request("move", disk, id),
+        Entry::Hold { disk, id } => of_request("hold", disk, id),
+        Entry::Put { disk, id, ok: true } => of_request("put", disk, id),
         Entry::Put {
             disk,
             id,
             ok: false,
-        } => write!(out, "fail {disk} {id}"),
-        Entry::Finish { disk, id } => write!(out, "finish {disk} {id}"),
-        _ => Ok(()),
+        } => of_request("fail", disk, id),
+        Entry::Finish { disk, id } => of_request("finish", disk, id),
+        Entry::Feed => bare("feed"),
+        Entry::Wish => bare("wish"),
+        Entry::Done { k } => ("done", Some(u64::from(k)), None),
+        Entry::End {
+            why: EndCause::Budget,
+        } => bare("budget"),
+        Entry::End {
+            why: EndCause::Outside,
+        } => bare("outside"),
+        Entry::Close => bare("close"),
+        Entry::Tick { n } => ("tick", Some(n), None),
+    }
+}
+
+/// A number of an entry, where it has one.
+fn print_number(number: Option<u64>, out: &mut String) -> Result<(), AllocError> {
+    match number {
+        None => Ok(()),
+        Some(number) => write!(out, " {number}"),
     }
 }
 
 /// An entry, as a case spells it, or `none`.
 pub fn print_entry(entry: Option<Entry>, out: &mut String) -> Result<(), AllocError> {
-    match entry {
-        None => out.push_str("none"),
-        Some(entry) => print_plain(entry, out),
-    }
+    let Some(entry) = entry else {
+        return out.push_str("none");
+    };
+    let (name, first, second) = spelled(entry);
+    out.push_str(name)?;
+    print_number(first, out)?;
+    print_number(second, out)
 }

@@ -6,7 +6,7 @@ use crate::sound::{begin_flat, begin_saved};
 use ctl_script::read;
 use std::alloc::Global;
 use vm_asm::assemble;
-use vm_law::{DiskPlan, Plan, Script, Seq, Text};
+use vm_law::{DiskPlan, FlatImage, Plan, Script, Seq, Text};
 use vm_table::Run;
 
 /// The bytes of a sector.
@@ -56,6 +56,34 @@ fn short(text: &String) -> Result<&[u8], CaseError>
     Ok(text.as_bytes())
 }
 
+/// A disk of zeros: its sectors, its workers, and 1 where it is read-only.
+fn disk_of(alloc: Global, fields: &str) -> Result<Disk, CaseError> {
+    let numbers = numbers_of(fields)?;
+    if numbers[0] > MOST_SECTORS {
+        return Err(CaseError::Form);
+    }
+    let workers = byte(numbers[1])?;
+    let bytes = vec![in alloc; 0; numbers[0] as usize * SECTOR]?;
+    Ok(Disk {
+        ro: numbers[2] != 0,
+        workers,
+        bytes,
+    })
+}
+
+/// Fills a sector, where there is one of this number.
+fn fill_sector(bytes: &mut Vec<u8>, sector: u64, value: u8) -> Result<(), CaseError> {
+    if sector > MOST_SECTORS {
+        return Err(CaseError::Form);
+    }
+    let at = sector as usize * SECTOR;
+    match bytes.as_mut_slice().get_mut(at..at + SECTOR) {
+        Some(sector) => sector.fill(value),
+        None => return Err(CaseError::Form),
+    }
+    Ok(())
+}
+
 impl Setup {
     /// One vCPU, and no disk.
     pub fn new(alloc: Global) -> Setup {
@@ -72,66 +100,52 @@ impl Setup {
     /// Another start: so many vCPUs, so many bytes of memory, so many instructions.
     fn start(&mut self, alloc: Global, fields: &str) -> Result<(), CaseError> {
         let numbers = numbers_of(fields)?;
-        *self = Setup::new(alloc);
-        self.cpus = byte(numbers[0])?;
-        self.memory = numbers[1];
-        self.limit = numbers[2];
+        let cpus = byte(numbers[0])?;
+        *self = Setup {
+            cpus,
+            memory: numbers[1],
+            limit: numbers[2],
+            ..Setup::new(alloc)
+        };
         Ok(())
     }
 
     /// One disk more: its sectors, its workers, and 1 where it is read-only.
     fn disk(&mut self, alloc: Global, fields: &str) -> Result<(), CaseError> {
-        let numbers = numbers_of(fields)?;
-        if numbers[0] > MOST_SECTORS {
-            return Err(CaseError::Form);
-        }
-        let bytes = vec![in alloc; 0; numbers[0] as usize * SECTOR]?;
-        self.disks.push(Disk {
-            ro: numbers[2] != 0,
-            workers: byte(numbers[1])?,
-            bytes,
-        })?;
+        let disk = disk_of(alloc, fields)?;
+        self.disks.push(disk)?;
         Ok(())
     }
 
     /// The byte that stands all over a sector of a disk.
     fn fill(&mut self, fields: &str) -> Result<(), CaseError> {
         let numbers = numbers_of(fields)?;
-        let value = byte(numbers[2])?;
         let place = usize::try_from(numbers[0]).map_err(|_| CaseError::Form)?;
-        let disk = self
-            .disks
-            .as_mut_slice()
-            .get_mut(place)
-            .ok_or(CaseError::Form)?;
-        if numbers[1] > MOST_SECTORS {
-            return Err(CaseError::Form);
+        match self.disks.as_mut_slice().get_mut(place) {
+            Some(disk) => fill_sector(&mut disk.bytes, numbers[1], byte(numbers[2])?),
+            None => Err(CaseError::Form),
         }
-        let at = numbers[1] as usize * SECTOR;
-        let sector = disk
-            .bytes
-            .as_mut_slice()
-            .get_mut(at..at + SECTOR)
-            .ok_or(CaseError::Form)?;
-        sector.fill(value);
-        Ok(())
+    }
+
+    /// Another script.
+    fn orders(&mut self, alloc: Global, fields: &str) -> Result<(), CaseError> {
+        self.script = String::new(alloc);
+        add_lines(&mut self.script, fields)
     }
 
     /// Takes a line that says something of the start, and says whether it does.
     pub fn take(&mut self, alloc: Global, line: &str) -> Result<bool, CaseError> {
         let (name, fields) = cut(line);
-        match name {
-            "start" => self.start(alloc, fields)?,
-            "disk" => self.disk(alloc, fields)?,
-            "fill" => self.fill(fields)?,
-            "asm" => add_lines(&mut self.assembly, fields)?,
-            "order" => add_lines(&mut self.script, fields)?,
-            "orders" => {
-                self.script = String::new(alloc);
-                add_lines(&mut self.script, fields)?;
-            }
+        let taken = match name {
+            "start" => self.start(alloc, fields),
+            "disk" => self.disk(alloc, fields),
+            "fill" => self.fill(fields),
+            "asm" => add_lines(&mut self.assembly, fields),
+            "order" => add_lines(&mut self.script, fields),
+            "orders" => self.orders(alloc, fields),
             _ => return Ok(false),
-        }
+        };
+        taken?;
         Ok(true)
     }
 
@@ -149,11 +163,12 @@ impl Setup {
     }
 
     fn plan(&self, alloc: Global) -> Result<Plan, CaseError> {
+        let name = Text::from_text(alloc, "case")?;
         let disks = self.disk_plans(alloc)?;
         Ok(Plan {
             cpus: self.cpus,
             memory: self.memory,
-            name: Text::from_text(alloc, "case")?,
+            name,
             image: None,
             script: None,
             disks,
@@ -173,19 +188,32 @@ impl Setup {
         Ok(read(alloc, short(&self.script)?, plan)?)
     }
 
+    fn planned(&self, alloc: Global) -> Result<(Plan, Script), CaseError> {
+        let plan = self.plan(alloc)?;
+        let script = self.script(alloc, &plan)?;
+        Ok((plan, script))
+    }
+
+    fn image(&self, alloc: Global) -> Result<FlatImage, CaseError> {
+        Ok(assemble(alloc, short(&self.assembly)?)?)
+    }
+
+    fn contents_and_image(&self, alloc: Global) -> Result<(Seq<Seq<u8>>, FlatImage), CaseError> {
+        let disks = self.contents(alloc)?;
+        let image = self.image(alloc)?;
+        Ok((disks, image))
+    }
+
     /// The run that begins from the assembled image.
     pub fn begin(&self, alloc: Global) -> Result<Run, CaseError> {
-        let plan = self.plan(alloc)?;
-        let disks = self.contents(alloc)?;
-        let script = self.script(alloc, &plan)?;
-        let image = assemble(alloc, short(&self.assembly)?)?;
+        let (plan, script) = self.planned(alloc)?;
+        let (disks, image) = self.contents_and_image(alloc)?;
         begin_flat(alloc, plan, image, disks, script, self.limit)
     }
 
     /// The run that begins from the machine of another run, which is at a cut.
     pub fn restore(&self, alloc: Global, run: &Run) -> Result<Run, CaseError> {
-        let plan = self.plan(alloc)?;
-        let script = self.script(alloc, &plan)?;
+        let (plan, script) = self.planned(alloc)?;
         begin_saved(alloc, plan, script, self.limit, run)
     }
 }

@@ -12,7 +12,7 @@ use crate::allowed::is_allowed;
 use crate::case::CaseError;
 use std::alloc::Global;
 use vm_law::{Bytes, DiskPlan, FlatImage, OutOfMemory, Plan, Script, Seq};
-use vm_state::{Drive, Origin, Start};
+use vm_state::{Drive, Machine, Origin, Start};
 use vm_table::Run;
 
 /// Whether it is a size of memory: 1 MiB to 1 GiB, in whole pages.
@@ -132,6 +132,16 @@ fn fits(plan: &Plan, run: &Run) -> bool
         && are_drives_of(plan.disks.as_slice(), run.machine().drives.as_slice())
 }
 
+/// The run that begins from a start whose origin fits, where the rest does.
+fn begin_from(alloc: Global, start: &Start) -> Result<Run, CaseError>
+    requires { spec.OriginFits start.now.plan start.now.disks start.now.origin }
+{
+    if !is_sound_beside(alloc, start)? {
+        return Err(CaseError::Start);
+    }
+    Ok(Run::begin(alloc, start)?)
+}
+
 /// The run that begins from a flat image, where it can.
 pub fn begin_flat(
     alloc: Global,
@@ -151,10 +161,17 @@ pub fn begin_flat(
         script,
         limit,
     };
-    if !is_sound_beside(alloc, &start)? {
-        return Err(CaseError::Start);
-    }
-    Ok(Run::begin(alloc, &start)?)
+    begin_from(alloc, &start)
+}
+
+/// The disks of a run and its machine.
+fn saved_of(alloc: Global, run: &Run) -> Result<(Seq<Seq<u8>>, Machine), OutOfMemory>
+    ensures disks { IfOk result (λ r. r.0 ≡ map (λ (x : Drive). x.bytes) run.now.state.machine.drives) }
+    ensures machine { IfOk result (λ r. r.1.state ≡ run.now.state.machine) }
+{
+    let disks = disks_of(alloc, run.machine().drives.as_slice())?;
+    let machine = run.machine().copy(alloc)?;
+    Ok((disks, machine))
 }
 
 /// The run that begins from the machine of another, where it can.
@@ -170,8 +187,7 @@ pub fn begin_saved(
         return Err(CaseError::Start);
     }
     run.is_sound();
-    let disks = disks_of(alloc, run.machine().drives.as_slice())?;
-    let machine = run.machine().copy(alloc)?;
+    let (disks, machine) = saved_of(alloc, run)?;
     let start = Start {
         plan,
         origin: Origin::Saved(machine),
@@ -179,8 +195,5 @@ pub fn begin_saved(
         script,
         limit,
     };
-    if !is_sound_beside(alloc, &start)? {
-        return Err(CaseError::Start);
-    }
-    Ok(Run::begin(alloc, &start)?)
+    begin_from(alloc, &start)
 }

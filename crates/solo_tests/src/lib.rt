@@ -7,3 +7,5 @@ mod bed;
 mod guest;
 #[cfg(test)]
 mod runs;
+#[cfg(test)]
+mod workers;

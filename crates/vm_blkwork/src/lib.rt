@@ -12,6 +12,3 @@ mod worker;
 
 pub use outside::Out;
 pub use worker::Worker;
-
-#[cfg(test)]
-mod tests;

@@ -149,6 +149,7 @@ impl<I: Image + Drop> Board<I> {
     }
 
     /// Makes room for so many entries. Nothing else changes, and no room is lost where memory ran out.
+    #[inline(always)]
     pub fn reserve(&mut self, alloc: Global, count: usize) -> Result<(), OutOfMemory>
         ensures same { IsSame self.old self.new }
         ensures ok { OnOk result (count ≤ self.new.room) }

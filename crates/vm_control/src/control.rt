@@ -111,7 +111,7 @@ impl Control {
     fn rests(&self, run: &Run) -> bool
         ensures { result ≡ true → turn_of run.now.state self.now.failed ≡ [] }
     {
-        !failures::any(&self.events) && run.first_lawful(0).is_none()
+        !failures::any(&self.events) && run.control_rests()
     }
 
     /// Takes a turn.

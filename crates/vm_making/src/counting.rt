@@ -37,16 +37,3 @@ pub(crate) fn sum_of(counts: &[u32]) -> u32
 {
     counts.iter().sum()
 }
-
-#[cfg(test)]
-mod tests {
-    use super::*;
-    use std::test::Fail;
-
-    #[test]
-    fn counts_of_rows(rt: HostRuntime) -> Result<(), Fail> {
-        assert_eq!(rt; counts_of(1, 1).as_slice(), [7_591].as_slice());
-        assert_eq!(rt; counts_of(2, 0).as_slice(), [2_346, 2_607].as_slice());
-        Ok(())
-    }
-}

@@ -2,3 +2,4 @@ pub mod Quiet
 pub mod Duties
 pub mod Done
 pub mod Ending
+pub mod Resting

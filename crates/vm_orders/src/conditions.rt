@@ -83,6 +83,7 @@ fn is_ready(run: &RunState, order: Option<&Order>) -> bool
 }
 
 /// Whether the order at place `k` comes next, and is done.
+#[inline(always)]
 #[tactic(auto, unfolding(crate::specs::Done::may_done))]
 pub fn may_done(run: &RunState, by: u16, k: u16) -> bool
     requires { IsSoundState run.now.state }

@@ -10,7 +10,7 @@ use vm_law::{MeetKind, Order};
 use vm_state::RunState;
 
 /// From so many instructions on since the timers moved on last they move on by all of them.
-const LONGEST_LAG: u64 = 1024;
+pub(crate) const LONGEST_LAG: u64 = 1024;
 
 fn is_rendezvous(order: Option<&Order>) -> bool
     ensures { result ≡ spec.is_rendezvous (option_copied order.entry) }
@@ -96,6 +96,7 @@ pub fn wish(run: &mut RunState, by: u16)
 
 /// By how many instructions the timers would move on: by all that were executed since they did last, once these are 1,024,
 /// and else by the least that is left of a timer whose firing would be seen.
+#[inline(always)]
 #[tactic(auto, unfolding(crate::specs::Duties::tick_of))]
 pub fn tick_of(run: &RunState) -> u64
     requires { IsSoundState run.now.state }
@@ -111,6 +112,7 @@ pub fn tick_of(run: &RunState) -> u64
 
 /// Whether control may let the timers move on by `n` instructions: where these are all of at least 1,024 that were executed
 /// since they did last, or where nothing but a timer can go on and it would fire then.
+#[inline(always)]
 #[tactic(auto, unfolding(crate::specs::Duties::may_tick))]
 pub fn may_tick(run: &RunState, by: u16, n: u64) -> bool
     requires { IsSoundState run.now.state }

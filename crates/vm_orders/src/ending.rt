@@ -11,7 +11,7 @@ use vm_law::{EndCause, Order};
 use vm_state::{RunState, Why};
 
 /// So many entries use a run up.
-const ENTRY_LIMIT: u64 = 40_000_000;
+pub(crate) const ENTRY_LIMIT: u64 = 40_000_000;
 
 fn is_wait(order: &Order) -> bool
     ensures { result ≡ waits order.now }
@@ -35,6 +35,7 @@ fn is_waiting(run: &RunState, order: Option<&Order>) -> bool
 
 /// Whether what was allowed is used up: 40,000,000 entries stand, or as many instructions were executed as may be, while a
 /// vCPU has something to do and a wait isn't over.
+#[inline(always)]
 #[tactic(auto, unfolding(crate::specs::Ending::is_used_up))]
 pub fn is_used_up(run: &RunState) -> bool
     requires { IsSoundState run.now.state }
@@ -50,6 +51,7 @@ pub fn is_used_up(run: &RunState) -> bool
 }
 
 /// Whether control may end the run for this cause.
+#[inline(always)]
 #[tactic(auto, unfolding(crate::specs::Ending::may_end))]
 pub fn may_end(run: &RunState, by: u16, cause: EndCause) -> bool
     requires { IsSoundState run.now.state }
@@ -78,6 +80,7 @@ pub fn end(run: &mut RunState, by: u16, cause: EndCause)
 }
 
 /// Whether control may close the run: it has ended, and everything is at rest.
+#[inline(always)]
 #[tactic(auto, unfolding(crate::specs::Ending::may_close))]
 pub fn may_close(run: &RunState, by: u16) -> bool
     ensures { result ≡ spec.may_close run.now.state by }

@@ -14,9 +14,11 @@ mod ending;
 mod orders;
 mod quiet;
 mod registers;
+mod resting;
 
 pub use conditions::{is_cut, may_done};
 pub use duties::{feed, may_feed, may_meet, may_tick, may_wish, meet, tick, tick_of, wish};
 pub use ending::{close, end, is_used_up, may_close, may_end};
 pub use orders::done;
 pub use quiet::{is_quiet, is_still};
+pub use resting::rests_at_sight;

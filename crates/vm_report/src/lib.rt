@@ -8,8 +8,6 @@
 mod planning;
 mod reporting;
 mod state;
-#[cfg(test)]
-mod tests;
 
 pub use planning::plan_json;
 pub use reporting::report;

@@ -1,7 +1,7 @@
 -- One instruction of a running vCPU that isn't local: Step. It reaches memory, a port or a device's window, or it is
 -- delivered to, by the exception that it raises or by INT.
 -- Source: Intel SDM volume 3, sections 6.12 to 6.15; the pages of HLT, IN, OUT, INT and MOV in volume 2.
-use Rattle.std.specs.Prelude.{ℕ, ◌+◌, ◌%◌, ◌^◌, Bool, true, false, not, ◌&&◌, ◌||◌, nat_lt, ◌++◌, Option, None, Result, Ok, Err, is_none}
+use Rattle.std.specs.Prelude.{ℕ, ◌+◌, ◌%◌, ◌^◌, Bool, true, false, not, ◌&&◌, ◌||◌, nat_lt, slice_set, ◌++◌, Option, None, Result, Ok, Err, is_none}
 use Rattle.std.specs.Option.{option_to_list}
 use Rattle.vm_law.specs.Memory.{Memory}
 use Rattle.vm_law.specs.declared.context.Ctx.{Ctx}
@@ -76,6 +76,21 @@ counted s stored = record s { versions = versions_after s.versions s.machine.ram
 abbrev pub stored_in : State → exec.Shared → State
 stored_in s x = with_ram (counted s x.stored) x.memory
 
+-- an instruction of vCPU i, on its registers and on memory
+abbrev pub attempt : State → ℕ → Insn → ℕ → Result exec.Shared Effect
+attempt s i insn len = exec.attempted (cpu_at s.machine i).ctx insn len s.machine.ram insn.op
+
+abbrev pub shared_at : State → ℕ → Insn → ℕ → exec.Shared
+shared_at s i insn len = exec.shared (cpu_at s.machine i).ctx insn len s.machine.ram
+
+-- it has this context, and memory is this
+abbrev pub moved_on : State → ℕ → Ctx → Memory → State
+moved_on s i c ram = with_machine s (record s.machine { cpus = slice_set s.machine.cpus i (record (cpu_at s.machine i) { ctx = c }); ram = ram })
+
+-- it is done, and asks nothing
+abbrev pub done_by : State → ℕ → exec.Shared → State
+done_by s i x = stepped_to (stored_in s x) i x.ctx false
+
 -- the console receives a byte
 abbrev pub printed : State → Option ℕ → State
 printed s byte = record s { console = s.console ++ option_to_list byte }
@@ -113,7 +128,7 @@ unfoldable pub window_store : State → ℕ → ℕ → Ctx → Area → ℕ →
 window_store s p i c a value = stepped_to (window_written s p i a value) i c false
 
 unfoldable pub performed_as : State → ℕ → ℕ → Insn → ℕ → exec.Shared → Effect → State
-performed_as s p i insn len x effect.Done = stepped_to (stored_in s x) i x.ctx false
+performed_as s p i insn len x effect.Done = done_by s i x
 performed_as s p i insn len x effect.Halt = stepped_to s i x.ctx true
 performed_as s p i insn len x (effect.Trap v error) = trapped s i (pushed_rip (cpu_at s.machine i).ctx insn.op len) v error
 performed_as s p i insn len x (effect.Stop why) = stopped_at s i why

@@ -6,7 +6,7 @@ ghost use Rattle.vm_state.specs.Sound.{IsSoundState};
 ghost use Rattle.vm_law.specs.Memory.{KeepsSize};
 ghost use Rattle.x86_exec.specs.Kept.{Leaves};
 ghost use Rattle.x86_exec.specs.Shared as exec;
-ghost use Rattle.vm_running.specs.Spending.{CanSpend, IsInside};
+ghost use Rattle.vm_running.specs.Spending.{AreBelow, CanSpend, IsInside};
 ghost use Rattle.vm_running.specs.Step as spec;
 
 use crate::asking::{ctx_of, load, port_in, port_out, store, trap};
@@ -29,8 +29,9 @@ fn pushed_rip(ctx: &Ctx, op: Op, len: u8) -> u64
 }
 
 /// Counts what an instruction stored in the versions of the pages of code.
-fn count_stored(run: &mut RunState, stored: Option<Stored>)
-    requires sound { IsSoundState run.old.state }
+pub(crate) fn count_stored(run: &mut RunState, stored: Option<Stored>)
+    requires pages { length run.old.state.versions ≡ state.page_count run.old.state.machine.ram.code }
+    requires versions { AreBelow run.old.state.versions (2 ^ 63) }
     requires inside { IsInside run.old.state.machine.ram stored }
     ensures { run.new ≡ record run.old { state = spec.counted run.old.state stored } }
 {

@@ -8,8 +8,8 @@ ghost use Rattle.vm_running.specs.Slice as slice;
 ghost use Rattle.vm_running.specs.Spending as spending;
 ghost use Rattle.vm_running.specs.Step as step;
 
-use vm_law::{Ctx, Seq, Stop};
-use vm_state::{RunState, Why};
+use vm_law::{Ctx, Stop};
+use vm_state::{RunState, Versions, Why};
 use x86_exec::Stored;
 
 /// The bytes of a page of memory.
@@ -54,18 +54,9 @@ pub(crate) fn step_to(run: &mut RunState, i: u8, ctx: &Ctx, halted: bool)
     spend(run, i, 1);
 }
 
-/// One version more for a page of the code.
-fn count_store(versions: &mut Seq<u64>, page: usize)
-    requires page { page < length versions.old }
-    requires fits { slice_index versions.old page + 1 < 2 ^ 64 }
-    ensures { versions.new ≡ state.one_more versions.old page }
-{
-    *versions.at_mut(page) += 1;
-}
-
 /// Counts a store in the versions of the pages of code that it touches.
 #[tactic(auto, unfolding(vm_state::specs::State::touched))]
-pub(crate) fn touch(versions: &mut Seq<u64>, code: u64, stored: Stored)
+pub(crate) fn touch(versions: &mut Versions, code: u64, stored: Stored)
     requires pages { length versions.old ≡ state.page_count code }
     requires fits { spending.AreBelow versions.old (2 ^ 63) }
     requires inside { stored.at + stored.len < 2 ^ 64 }
@@ -77,8 +68,8 @@ pub(crate) fn touch(versions: &mut Seq<u64>, code: u64, stored: Stored)
     let end = (stored.at + u64::from(stored.len)).min(code);
     let first = stored.at / PAGE;
     let last = end.saturating_sub(1) / PAGE;
-    count_store(versions, first as usize);
+    versions.count(first as usize);
     if last != first {
-        count_store(versions, last as usize);
+        versions.count(last as usize);
     }
 }

@@ -1,16 +1,19 @@
 //! Step: one instruction of a running vCPU that isn't local.
-ghost use Rattle.std.specs.Prelude.{◌≡◌, ◌≤◌, ◌<◌, ◌+◌, ◌&&◌, ◌||◌, not, false, IsTrue, is_none, if◌then◌else◌};
+ghost use Rattle.std.specs.Prelude.{◌≡◌, ℕ, ◌≤◌, ◌<◌, ◌+◌, ◌&&◌, ◌||◌, not, false, IsTrue, IfOk, OnErr, is_none, if◌then◌else◌};
 ghost use Rattle.vm_state.specs.Machine as machine;
 ghost use Rattle.vm_state.specs.Sound.{IsSoundState};
+ghost use Rattle.vm_law.specs.Memory.{KeepsSize};
 ghost use Rattle.x86_fetch.specs.Fetching.{is_local_next};
-ghost use Rattle.vm_running.specs.Spending.{CanSpend};
+ghost use Rattle.x86_fetch.specs.Sharing.{IsNextDoneAs};
+ghost use Rattle.vm_running.specs.Spending.{CanSpend, IsInside};
 ghost use Rattle.vm_running.specs.Step as spec;
 
-use crate::performing::{refuse, share};
+use crate::performing::{count_stored, refuse, share};
 use crate::rerouting::reroutes;
-use crate::spending::stop_at;
+use crate::spending::{spend, stop_at};
 use vm_law::{Insn, Owned, Stop};
 use vm_state::RunState;
+use x86_exec::{NotDone, Stored};
 use x86_fetch::Next;
 
 /// What stands at RIP of a vCPU.
@@ -104,9 +107,82 @@ fn share_where_allowed(run: &mut RunState, by: u16, i: u8, insn: &Insn, len: u8)
     true
 }
 
+/// Runs the next instruction of a vCPU on its registers and on memory, where they stand, if it isn't local and is done by
+/// itself.
+#[inline(always)]
+fn run_in_place(run: &mut RunState, i: u8) -> Result<Option<Stored>, NotDone>
+    requires cpu { IsTrue (machine.is_cpu run.old.state.machine i) }
+    requires spare { 2 ≤ run.old.spare }
+    ensures done { IsNextDoneAs result (machine.cpu_at run.old.state.machine i).ctx run.old.state.machine.ram (spec.next_at run.old.state i) (machine.cpu_at run.new.state.machine i).ctx run.new.state.machine.ram }
+    ensures state { run.new.state ≡ spec.moved_on run.old.state i (machine.cpu_at run.new.state.machine i).ctx run.new.state.machine.ram }
+    ensures same { OnErr result (run.new ≡ run.old) }
+    ensures inside { IfOk result (IsInside run.new.state.machine.ram) }
+    ensures size { KeepsSize run.old.state.machine.ram run.new.state.machine.ram }
+    ensures room { run.new.room ≡ run.old.room }
+    ensures spare { run.old.spare ≤ run.new.spare + 2 }
+{
+    let cpu = run.machine.cpus.at_mut(i as usize);
+    run.machine.ram.share_done(&mut cpu.ctx)
+}
+
+/// An instruction was executed whose context stands already; the vCPU isn't halted.
+#[inline(always)]
+#[tactic(auto, unfolding(crate::specs::Step::stepped_to))]
+fn go_on(run: &mut RunState, i: u8)
+    requires cpu { IsTrue (machine.is_cpu run.old.state.machine i) }
+    requires spends { CanSpend run.old.state i }
+    ensures { run.new ≡ record run.old { state = spec.stepped_to run.old.state i (machine.cpu_at run.old.state.machine i).ctx false } }
+{
+    run.machine.cpus.at_mut(i as usize).halted = false;
+    spend(run, i, 1);
+}
+
+/// Runs the next instruction of a vCPU where it isn't local and is done by itself, and says whether it is.
+#[inline(always)]
+fn step_in_place(run: &mut RunState, i: u8) -> bool
+    requires sound { IsSoundState run.old.state }
+    requires cpu { IsTrue (machine.is_cpu run.old.state.machine i) }
+    requires spends { CanSpend run.old.state i }
+    requires spare { 2 ≤ run.old.spare }
+    ensures other { IsTrue result → is_local_next (spec.next_at run.old.state i) ≡ false }
+    ensures ran { IsTrue result → (by : ℕ) → run.new.state ≡ spec.after_step run.old.state by i }
+    ensures same { result ≡ false → run.new ≡ run.old }
+    ensures room { run.new.room ≡ run.old.room }
+    ensures spare { run.old.spare ≤ run.new.spare + 2 }
+{
+    match run_in_place(run, i) {
+        Ok(stored) => {
+            count_stored(run, stored);
+            go_on(run, i);
+            true
+        }
+        Err(NotDone) => false,
+    }
+}
+
 /// Runs the next instruction of a vCPU where it may be a Step's, and says whether it may. It is looked up once.
-#[tactic(auto, unfolding(crate::specs::Step::would_route, crate::specs::Step::after_step, crate::specs::Step::performed))]
+#[inline(always)]
 fn step_next(run: &mut RunState, by: u16, i: u8) -> bool
+    requires sound { IsSoundState run.old.state }
+    requires cpu { IsTrue (machine.is_cpu run.old.state.machine i) }
+    requires spends { CanSpend run.old.state i }
+    requires room { 1 ≤ run.old.room }
+    requires spare { 4 ≤ run.old.spare }
+    ensures may { result ≡ spec.is_allowed run.old.state i }
+    ensures state { run.new.state ≡ (if result then spec.after_step run.old.state by i else run.old.state) }
+    ensures room { run.old.room ≤ run.new.room + 1 }
+    ensures spare { run.old.spare ≤ run.new.spare + 4 }
+{
+    if !run.machine.meet.is_open() && step_in_place(run, i) {
+        return true;
+    }
+    step_by_kind(run, by, i)
+}
+
+/// The same, by what stands at RIP.
+#[inline(never)]
+#[tactic(auto, unfolding(crate::specs::Step::would_route, crate::specs::Step::after_step, crate::specs::Step::performed))]
+fn step_by_kind(run: &mut RunState, by: u16, i: u8) -> bool
     requires sound { IsSoundState run.old.state }
     requires cpu { IsTrue (machine.is_cpu run.old.state.machine i) }
     requires spends { CanSpend run.old.state i }

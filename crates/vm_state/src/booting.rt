@@ -12,9 +12,11 @@ use crate::copying::order_copy;
 use crate::cpu::{Cpu, Seat};
 use crate::drive::Drive;
 use crate::image::DiskImage;
+use crate::kept::{Held, Kept, Told};
 use crate::machine::Machine;
 use crate::run_state::{Answer, RunState, Said};
 use crate::start::{Origin, Start};
+use crate::versions::Versions;
 use arrayvec::ArrayVec;
 use blk_queue::BlkQueue;
 use std::alloc::Global;
@@ -209,14 +211,12 @@ fn boot_images(alloc: Global, disks: &[Seq<u8>]) -> Result<Seq<DiskImage>, OutOf
     Ok(Seq::from_vec(images))
 }
 
-fn boot_versions(alloc: Global, code: u64) -> Result<Seq<u64>, OutOfMemory>
+fn boot_versions(alloc: Global, code: u64) -> Result<Versions, OutOfMemory>
     requires { code ≤ 16777216 }
     ensures { IfOk result (λ versions. versions ≡ replicate (state.page_count code) 0) }
 {
     let pages = (code + PAGE - 1) / PAGE;
-    let mut versions = Vec::new(alloc);
-    versions.resize(pages as usize, 0)?;
-    Ok(Seq::from_vec(versions))
+    Versions::new(alloc, pages as usize)
 }
 
 /// An order that isn't done.
@@ -296,23 +296,77 @@ fn input_total(orders: &[Answer]) -> Result<usize, OutOfMemory>
     Ok(total)
 }
 
-/// The run on a machine, of which nothing is done yet.
-fn begun(
-    machine: Machine,
-    seats: Seq<Seat>,
-    images: Seq<DiskImage>,
-    versions: Seq<u64>,
-    limit: u64,
-    orders: Seq<Answer>,
-    input: Vec<u8>,
-    console: Vec<u8>,
-) -> RunState
-    requires fresh { (k : ℕ) → view.samples_of orders k ≡ [] }
-    requires room { sum_by view.input_length orders ≤ vec_capacity input }
-    requires input { vec_len input ≡ 0 }
-    requires console { console.items ≡ [] }
-    ensures { result.state ≡ record { machine = machine.state; seats = seats; images = images; versions = versions; executed = 0; seen = 0; limit = limit; entries = 0; script = view.script_of orders; place = 0; begun = false; input = []; answers = []; samples = []; console = []; ended = None; closed = false } }
+/// Room for the bytes that the orders add to the input.
+fn boot_input(alloc: Global, orders: &[Answer]) -> Result<Vec<u8>, OutOfMemory>
+    ensures empty { IfOk result (λ v. vec_len v ≡ 0) }
+    ensures room { IfOk result (λ v. sum_by view.input_length orders.now ≤ vec_capacity v) }
 {
+    let total = input_total(orders)?;
+    Ok(Vec::with_capacity(alloc, total)?)
+}
+
+/// What a run on a machine keeps, as it begins.
+fn boot_kept(alloc: Global, machine: &Machine, disks: &Seq<Seq<u8>>) -> Result<Kept, OutOfMemory>
+    requires { machine.now.state.ram.code ≤ 16777216 }
+    ensures { IfOk result (λ k. k ≡ record { seats = replicate (length machine.now.state.cpus) state.empty_seat; images = map spec.boot_image disks.now; versions = replicate (state.page_count machine.now.state.ram.code) 0 }) }
+{
+    let seats = boot_seats(alloc, machine.cpus.len())?;
+    let images = boot_images(alloc, disks.as_slice())?;
+    let versions = boot_versions(alloc, machine.ram.code())?;
+    Ok(Kept {
+        seats,
+        images,
+        versions,
+    })
+}
+
+/// The machine of a run that begins, with what the run keeps of it.
+#[tactic(auto, using(crate::proofs::Booted::boot_code))]
+fn boot_held(alloc: Global, start: &Start) -> Result<Held, OutOfMemory>
+    requires { spec.IsSound start.now }
+    ensures machine { IfOk result (λ h. h.machine.state ≡ spec.boot_machine start.now.plan start.now.disks start.now.origin) }
+    ensures kept { IfOk result (λ h. h.kept ≡ record { seats = replicate (length h.machine.state.cpus) state.empty_seat; images = map spec.boot_image start.now.disks; versions = replicate (state.page_count h.machine.state.ram.code) 0 }) }
+{
+    let machine = boot_machine(alloc, start)?;
+    let kept = boot_kept(alloc, &machine, &start.disks)?;
+    Ok(Held { machine, kept })
+}
+
+/// The orders of a run that begins, and room for what they add to its input.
+fn boot_told(alloc: Global, start: &Start) -> Result<Told, OutOfMemory>
+    ensures orders { IfOk result (λ t. t.orders ≡ map view.fresh (spec.boot_script start.now.origin start.now.script)) }
+    ensures room { IfOk result (λ t. sum_by view.input_length t.orders ≤ vec_capacity t.input) }
+    ensures input { IfOk result (λ t. vec_len t.input ≡ 0) }
+    ensures console { IfOk result (λ t. t.console.items ≡ []) }
+{
+    let orders = boot_orders(alloc, &start.origin, &start.script)?;
+    let input = boot_input(alloc, orders.as_slice())?;
+    Ok(Told {
+        orders,
+        input,
+        console: Vec::new(alloc),
+    })
+}
+
+/// The run on a machine, of which nothing is done yet.
+fn begun(held: Held, limit: u64, told: Told) -> RunState
+    requires fresh { (k : ℕ) → view.samples_of told.orders k ≡ [] }
+    requires room { sum_by view.input_length told.orders ≤ vec_capacity told.input }
+    requires input { vec_len told.input ≡ 0 }
+    requires console { told.console.items ≡ [] }
+    ensures { result.state ≡ record { machine = held.machine.state; seats = held.kept.seats; images = held.kept.images; versions = held.kept.versions; executed = 0; seen = 0; limit = limit; entries = 0; script = view.script_of told.orders; place = 0; begun = false; input = []; answers = []; samples = []; console = []; ended = None; closed = false } }
+{
+    let Held { machine, kept } = held;
+    let Kept {
+        seats,
+        images,
+        versions,
+    } = kept;
+    let Told {
+        orders,
+        input,
+        console,
+    } = told;
     RunState {
         machine,
         seats,
@@ -333,42 +387,13 @@ fn begun(
     }
 }
 
-/// The run on a machine, with the orders of its script.
-#[tactic(auto, unfolding(crate::specs::Start::first_state), using(crate::proofs::Fresh::none_noted))]
-fn first_state(
-    alloc: Global,
-    machine: Machine,
-    start: &Start,
-    orders: Seq<Answer>,
-) -> Result<RunState, OutOfMemory>
-    requires code { machine.state.ram.code ≤ 16777216 }
-    requires orders { (k : ℕ) → view.samples_of orders k ≡ [] }
-    ensures { IfOk result (λ r. r.state ≡ spec.first_state machine.state start.now.disks (view.script_of orders) start.now.limit) }
-{
-    let seats = boot_seats(alloc, machine.cpus.len())?;
-    let images = boot_images(alloc, start.disks.as_slice())?;
-    let versions = boot_versions(alloc, machine.ram.code())?;
-    let input = Vec::with_capacity(alloc, input_total(orders.as_slice())?)?;
-    let console = Vec::new(alloc);
-    Ok(begun(
-        machine,
-        seats,
-        images,
-        versions,
-        start.limit,
-        orders,
-        input,
-        console,
-    ))
-}
-
 /// The first state of a run from a sound start. It copies what it needs of the start.
-#[tactic(auto, using(crate::proofs::Booted::boot_code, crate::proofs::Fresh::script_of_fresh, crate::proofs::Fresh::none_noted))]
+#[tactic(auto, unfolding(crate::specs::Start::first_state), using(crate::proofs::Fresh::script_of_fresh, crate::proofs::Fresh::none_noted))]
 pub fn boot(alloc: Global, start: &Start) -> Result<RunState, OutOfMemory>
     requires { spec.IsSound start.now }
     ensures state { IfOk result (λ r. r.state ≡ spec.boot start.now) }
 {
-    let machine = boot_machine(alloc, start)?;
-    let orders = boot_orders(alloc, &start.origin, &start.script)?;
-    first_state(alloc, machine, start, orders)
+    let held = boot_held(alloc, start)?;
+    let told = boot_told(alloc, start)?;
+    Ok(begun(held, start.limit, told))
 }

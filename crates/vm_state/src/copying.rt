@@ -5,6 +5,7 @@ ghost use Rattle.std.specs.Vec.{vec_len, vec_capacity};
 use crate::cpu::Cpu;
 use crate::drive::Drive;
 use crate::image::DiskImage;
+use crate::kept::{Held, Kept, Told};
 use crate::machine::Machine;
 use crate::run_state::{Answer, RunState, Sample};
 use arrayvec::ArrayVec;
@@ -195,18 +196,76 @@ fn console_copy(alloc: Global, console: &[u8]) -> Result<Vec<u8>, OutOfMemory>
     Ok(Vec::from_slice(alloc, console)?)
 }
 
+/// What a run keeps, in equal copies.
+fn kept_copy(alloc: Global, run: &RunState) -> Result<Kept, OutOfMemory>
+    ensures { IfOk result (λ k. k ≡ record { seats = run.now.state.seats; images = run.now.state.images; versions = run.now.state.versions }) }
+{
+    let seats = run.seats.copy(alloc)?;
+    let images = images_copy(alloc, run.images.as_slice())?;
+    let versions = run.versions.copy(alloc)?;
+    Ok(Kept {
+        seats,
+        images,
+        versions,
+    })
+}
+
+/// Equal orders and bytes, with at least as much room for input.
+fn told_copy(
+    alloc: Global,
+    orders: &[Answer],
+    input: &Vec<u8>,
+    console: &[u8],
+) -> Result<Told, OutOfMemory>
+    ensures orders { IfOk result (λ t. t.orders ≡ orders.now) }
+    ensures input { IfOk result (λ t. t.input.items ≡ input.now.items) }
+    ensures len { IfOk result (λ t. vec_len t.input ≡ vec_len input.now) }
+    ensures capacity { IfOk result (λ t. vec_capacity input.now ≤ vec_capacity t.input) }
+    ensures console { IfOk result (λ t. t.console.items ≡ console.now) }
+{
+    let orders = answers_copy(alloc, orders)?;
+    let input = input_copy(alloc, input)?;
+    let console = console_copy(alloc, console)?;
+    Ok(Told {
+        orders,
+        input,
+        console,
+    })
+}
+
+/// Equal copies of a run's machine and of what the run keeps.
+fn held_copy(alloc: Global, run: &RunState) -> Result<Held, OutOfMemory>
+    ensures machine { IfOk result (λ h. h.machine.state ≡ run.now.state.machine) }
+    ensures kept { IfOk result (λ h. h.kept ≡ record { seats = run.now.state.seats; images = run.now.state.images; versions = run.now.state.versions }) }
+{
+    let machine = run.machine.copy(alloc)?;
+    let kept = kept_copy(alloc, run)?;
+    Ok(Held { machine, kept })
+}
+
 impl RunState {
     /// An equal run. It has room for no more console bytes or pages of memory.
     pub fn copy(&self, alloc: Global) -> Result<RunState, OutOfMemory>
         ensures { IfOk result (λ r. r.state ≡ self.now.state) }
     {
-        let machine = self.machine.copy(alloc)?;
-        let seats = self.seats.copy(alloc)?;
-        let images = images_copy(alloc, self.images.as_slice())?;
-        let versions = self.versions.copy(alloc)?;
-        let orders = answers_copy(alloc, self.orders.as_slice())?;
-        let input = input_copy(alloc, &self.input)?;
-        let console = console_copy(alloc, self.console.as_slice())?;
+        let held = held_copy(alloc, self)?;
+        let told = told_copy(
+            alloc,
+            self.orders.as_slice(),
+            &self.input,
+            self.console.as_slice(),
+        )?;
+        let Held { machine, kept } = held;
+        let Kept {
+            seats,
+            images,
+            versions,
+        } = kept;
+        let Told {
+            orders,
+            input,
+            console,
+        } = told;
         Ok(RunState {
             machine,
             seats,

@@ -1,6 +1,7 @@
 //! Counts of a machine and of a run, and who is who among its passes: control is 0, the runner of vCPU i is 1 + i, and then
 //! come the workers, drive after drive.
-ghost use Rattle.std.specs.Prelude.{◌≡◌, ◌<◌, ◌≤◌, length, slice_index};
+ghost use Rattle.std.specs.Prelude.{◌≡◌, ◌%◌, ◌<◌, ◌≤◌, ◌^◌, length, slice_index};
+ghost use Rattle.std.specs.List.{sum};
 ghost use Rattle.vm_state.specs.Machine as spec;
 ghost use Rattle.vm_state.specs.Requests as requests;
 ghost use Rattle.vm_state.specs.State as state;
@@ -122,6 +123,14 @@ impl RunState {
         requires { page < length self.now.state.versions }
         ensures { result ≡ slice_index self.now.state.versions page }
     {
-        *self.versions.at(page as usize)
+        self.versions.at(page as usize)
+    }
+
+    /// How often an instruction stored into a page of the code, of all pages together, modulo 2^64.
+    #[inline(always)]
+    pub fn version_total(&self) -> u64
+        ensures { result ≡ sum self.now.state.versions % 2 ^ 64 }
+    {
+        self.versions.total()
     }
 }

@@ -88,6 +88,7 @@ impl Cpu {
 
 impl Machine {
     /// Whether some vCPU has something to do.
+    #[inline(always)]
     pub fn any_eager(&self) -> bool
         ensures { result ≡ spec.any_eager self.now.state }
     {

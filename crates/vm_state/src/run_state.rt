@@ -3,6 +3,7 @@
 use crate::cpu::Seat;
 use crate::image::DiskImage;
 use crate::machine::Machine;
+use crate::versions::Versions;
 use arrayvec::ArrayVec;
 use std::marker::Model;
 use vm_law::{Order, Seq, Stop};
@@ -64,7 +65,7 @@ pub struct RunState {
     /// For each disk its image.
     pub images: Seq<DiskImage>,
     /// For each page of the code how often an instruction stored into it.
-    pub versions: Seq<u64>,
+    pub versions: Versions,
     /// How many instructions were executed in all.
     pub executed: u64,
     /// How many had been when the timers moved on last.

@@ -4,3 +4,4 @@ pub mod PlanParts
 pub mod Plan
 pub mod Looking
 pub mod Stages
+pub mod Resting

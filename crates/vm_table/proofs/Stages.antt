@@ -40,11 +40,11 @@ not_sleeping (Frozen p) q h = refl
 not_sleeping (Running p) q h = refl
 not_sleeping (Sleeping p) q h = absurd cc
 
-pair_false : (a b : Bool) → b ≡ false → (a && b) ≡ false
+pub pair_false : (a b : Bool) → b ≡ false → (a && b) ≡ false
 pair_false true b h = h
 pair_false false b h = refl
 
-not_lawful : (s : State) (p : ℕ) (e : Entry) → allowed s p e ≡ false → lawful s p e ≡ false
+pub not_lawful : (s : State) (p : ℕ) (e : Entry) → allowed s p e ≡ false → lawful s p e ≡ false
 unfolding lawful
 not_lawful s p e h = go (not s.closed) where
   go : (a : Bool) → (a && allowed s p e) ≡ false
@@ -140,7 +140,7 @@ no_care s cares.Yield i h = not_lawful s 0 (Yield i) (no_yield s 0 i (not_free (
 no_care s cares.Claim i h = not_lawful s 0 (Claim i) (no_claim s 0 i (not_free (cpu_at s.machine i).stage h).0)
 
 -- control's entries for no vCPU by itself
-abbrev for_all : State → List Entry
+abbrev pub for_all : State → List Entry
 for_all s = Feed ∷ Tick (tick_of s) ∷ End Budget ∷ Wish ∷ Meet ∷ Done s.place ∷ Close ∷ []
 
 module _ (s : State) (none : NoneIsFree s) where

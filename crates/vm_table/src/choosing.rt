@@ -1,5 +1,5 @@
 //! What an actor chooses in its turn: the first entry of its pass's list that is lawful.
-ghost use Rattle.std.specs.Prelude.{◌≡◌, false, ◌<◌, ◌≤◌, ◌+◌, [], ◌∷◌, ◌++◌, map, IfSome};
+ghost use Rattle.std.specs.Prelude.{◌≡◌, true, false, ◌<◌, ◌≤◌, ◌+◌, [], ◌∷◌, ◌++◌, None, is_none, map, IfSome};
 ghost use Rattle.std.specs.List.{find};
 ghost use Rattle.blk_queue.specs.Steps.{first_pending};
 ghost use Rattle.vm_state.specs.Machine.{cpu_at, cpu_count, cpu_numbers, drive_at, drive_count};
@@ -7,6 +7,7 @@ ghost use Rattle.vm_state.specs.Requests.{has_worker};
 ghost use Rattle.vm_table.specs.Choosing as choice;
 ghost use Rattle.vm_table.specs.Table.{lawful};
 ghost use Rattle.vm_orders.specs.Duties.{tick_of};
+ghost use Rattle.vm_orders.specs.Resting.{rests_at_sight};
 ghost use Rattle.vm_table.specs.Turns as turns;
 
 use crate::run::Run;
@@ -107,6 +108,7 @@ impl Run {
     }
 
     /// The first of control's entries for no vCPU by itself that is lawful.
+    #[inline(always)]
     #[tactic(auto, unfolding(crate::specs::Table::lawful, crate::specs::Table::allowed))]
     fn first_for_all(&self) -> Option<Entry>
         ensures { result ≡ find (λ e. lawful self.now.state 0 e) (Entry.Feed ∷ Entry.Tick (tick_of self.now.state) ∷ Entry.End EndCause.Budget
@@ -155,7 +157,47 @@ impl Run {
         false
     }
 
+    /// Whether it is told at sight that control has nothing to do for the run as a whole.
+    #[inline(always)]
+    fn rests_for_all(&self) -> bool
+        ensures { result ≡ rests_at_sight self.now.state }
+    {
+        vm_orders::rests_at_sight(&self.run)
+    }
+
+    /// Whether it is told at sight that control's list has no lawful entry.
+    #[inline(always)]
+    fn rests_at_sight(&self) -> bool
+        ensures { result ≡ true → turns.first_lawful self.now.state 0 ≡ None }
+    {
+        if self.any_free() {
+            return false;
+        }
+        self.rests_for_all()
+    }
+
+    /// Whether control's list has no lawful entry, entry by entry.
+    #[inline(never)]
+    #[tactic(auto, unfolding(crate::specs::Turns::list_of))]
+    fn finds_nothing(&self) -> bool
+        ensures { result ≡ is_none (turns.first_lawful self.now.state 0) }
+    {
+        self.first_of_control().is_none()
+    }
+
+    /// Whether control's list has no lawful entry.
+    #[inline(always)]
+    pub fn control_rests(&self) -> bool
+        ensures { result ≡ is_none (turns.first_lawful self.now.state 0) }
+    {
+        if self.rests_at_sight() {
+            return true;
+        }
+        self.finds_nothing()
+    }
+
     /// What control chooses.
+    #[inline(always)]
     fn first_of_control(&self) -> Option<Entry>
         ensures { result ≡ find (λ e. lawful self.now.state 0 e) (turns.control_list self.now.state) }
     {
@@ -167,6 +209,7 @@ impl Run {
     }
 
     /// What control chooses, whatever the stages of the vCPUs are.
+    #[inline(never)]
     #[tactic(auto, unfolding(crate::specs::Turns::control_list), using(crate::proofs::Firsts::find_parts))]
     fn first_listed_for_control(&self) -> Option<Entry>
         ensures { result ≡ find (λ e. lawful self.now.state 0 e) (turns.control_list self.now.state) }
@@ -359,6 +402,7 @@ impl Run {
 
     /// Makes the step of what an actor chooses in its turn, the first entry of its pass's list that is lawful, and says which it
     /// is; where there is none the run stays. A Step's instruction is looked up once. There is to be room for an entry.
+    #[inline(always)]
     pub fn advance_first(&mut self, by: u16) -> Option<Entry>
         requires room { 1 ≤ self.old.room }
         ensures chosen { result ≡ turns.first_lawful self.old.state by }

@@ -1,6 +1,6 @@
 //! What a run's state holds.
-ghost use Rattle.std.specs.Prelude.{◌≡◌, ◌<◌, Bool, length, slice_index, take};
-ghost use Rattle.std.specs.List.{count_by};
+ghost use Rattle.std.specs.Prelude.{◌≡◌, ◌%◌, ◌<◌, ◌^◌, Bool, length, slice_index, take};
+ghost use Rattle.std.specs.List.{count_by, sum};
 ghost use Rattle.std.specs.Option.{option_copied};
 ghost use Rattle.vm_state.specs.Machine as machine;
 ghost use Rattle.vm_state.specs.Requests as requests;
@@ -232,6 +232,14 @@ impl Run {
         ensures { result ≡ slice_index self.now.state.versions page }
     {
         self.run.version(page)
+    }
+
+    /// How often an instruction stored into a page of the code, of all pages together, modulo 2^64.
+    #[inline(always)]
+    pub fn version_total(&self) -> u64
+        ensures { result ≡ sum self.now.state.versions % 2 ^ 64 }
+    {
+        self.run.version_total()
     }
 
     // ---- the script

@@ -1,5 +1,5 @@
 -- Copies that are renewed page by page.
-use Rattle.std.proofs.Common.{◌≡◌, ℕ, ◌+◌, ◌*◌, ◌-◌, ◌≤◌, ◌<◌, List, ◌++◌, length, take, drop, get_or, refl, sym, ap, subst, ◌∙◌, inl, inr, arith, length-append, length-drop}
+use Rattle.std.proofs.Common.{◌≡◌, ℕ, ◌+◌, ◌*◌, ◌/◌, ◌-◌, ◌≤◌, ◌<◌, List, ◌++◌, length, take, drop, get_or, refl, sym, ap, subst, ◌∙◌, inl, inr, arith, length-append, length-drop}
 use Rattle.std.specs.Prelude.{slice_index, slice_set}
 use Rattle.std.proofs.Math.ListN.{length-set}
 use Rattle.std.proofs.lemmas.Bool.{cases_eq, cases_lt}
@@ -56,6 +56,13 @@ page_stands s was c n a v r =
       ];
       later = λ k l. r.later k (omega (arith, l));
     }
+
+-- all have their versions
+pub all_stand : (s : State) (c : CopiesView) → AreCopies s c → ((page : ℕ) → slice_index s.versions page ≡ slice_index c.versions page) → AreRenewed s c
+all_stand s c a same = record {
+  code = ext_get_or 0 c.code (code_of s.machine) a.size (λ j l. same_byte c.code (code_of s.machine) (j / 4096) j (a.pages (j / 4096) (same (j / 4096))) (omega arith) (omega arith));
+  versions = ext_get_or 0 c.versions s.versions a.count (λ k l. sym (same k));
+}
 
 -- ---- a page that is replaced
 

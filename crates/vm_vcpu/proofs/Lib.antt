@@ -7,4 +7,5 @@ pub mod Lists
 pub mod Seating
 pub mod Standing
 pub mod Staying
+pub mod Sums
 pub mod Turning

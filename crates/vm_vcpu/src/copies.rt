@@ -12,6 +12,7 @@ use std::marker::Model;
 use vm_board::Board;
 use vm_host::Image;
 use vm_law::{Ctx, OutOfMemory, Seq};
+use vm_state::Versions;
 use vm_table::Run;
 use x86_fetch::{Code, Table, run_slice, step_local};
 
@@ -44,7 +45,7 @@ impl Code for Bytes {
 #[derive(Drop)]
 pub struct Copies {
     code: Bytes,
-    versions: Seq<u64>,
+    versions: Versions,
     table: Table,
 }
 
@@ -70,12 +71,11 @@ impl Copies {
         ensures { IfOk result (λ c. c ≡ record { code = code.now; versions = replicate (page_count (length code.now)) 0 }) }
     {
         let bytes = Seq::from_slice(alloc, code)?;
-        let mut versions = Vec::new(alloc);
-        versions.resize((code.len() + PAGE - 1) / PAGE, 0)?;
+        let versions = Versions::new(alloc, (code.len() + PAGE - 1) / PAGE)?;
         let table = Table::new(alloc)?;
         Ok(Copies {
             code: Bytes { bytes },
-            versions: Seq::from_vec(versions),
+            versions,
             table,
         })
     }
@@ -103,20 +103,18 @@ impl Copies {
         requires count { length self.now.versions ≡ length run.now.state.versions }
         ensures { result ≡ (slice_index run.now.state.versions page == slice_index self.now.versions page) }
     {
-        run.version(page) == *self.versions.at(page as usize)
+        run.version(page) == self.versions.at(page as usize)
     }
 
-    /// Whether all pages have.
+    /// Whether all pages have: no version goes back, so that their sum tells.
+    #[inline(always)]
     fn are_all_kept(&self, run: &Run) -> bool
-        requires { length self.now.versions ≡ length run.now.state.versions }
+        requires count { length self.now.versions ≡ length run.now.state.versions }
+        requires earlier { (page : ℕ) → slice_index self.now.versions page ≤ slice_index run.now.state.versions page }
         ensures { IsTrue result → (page : ℕ) → slice_index run.now.state.versions page ≡ slice_index self.now.versions page }
     {
-        for page in 0..self.versions.len() as u32 {
-            if !self.is_kept(run, page) {
-                return false;
-            }
-        }
-        true
+        run.is_sound();
+        run.version_total() == self.versions.total()
     }
 
     /// Whether the pages have from which an instruction at an address is fetched.
@@ -150,8 +148,10 @@ impl Copies {
     }
 
     /// Whether each page has kept its version that was looked at for `count` instructions from a context on, of `granted`.
+    #[inline(always)]
     pub(crate) fn are_kept(&mut self, run: &Run, start: &Ctx, count: u16, granted: u16) -> bool
         requires fits { length self.old.versions ≡ length run.now.state.versions }
+        requires earlier { (page : ℕ) → slice_index self.old.versions page ≤ slice_index run.now.state.versions page }
         requires few { count ≤ granted }
         ensures same { self.new ≡ self.old }
         ensures kept { result ≡ is_kept run.now.state (record { ran = count; looked = pages_looked self.old.code start.now count granted; versions = self.old.versions }) }
@@ -168,7 +168,10 @@ impl Copies {
         requires { AreCopies board.now.state self.old }
         ensures { AreRenewed board.now.state self.new }
     {
-        for number in 0..self.versions.len() as u32 {
+        if self.are_all_kept(board.run()) {
+            return;
+        }
+        for number in 0..self.versions.pages() as u32 {
             self.renew_page(board, number);
         }
     }
@@ -181,7 +184,7 @@ impl Copies {
         ensures { IsPageRenewed board.now.state self.old self.new number }
     {
         let version = board.version(number);
-        if *self.versions.at(number as usize) != version {
+        if self.versions.at(number as usize) != version {
             self.copy_page(board, number, version);
         }
     }

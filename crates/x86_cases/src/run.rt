@@ -4,7 +4,7 @@ use crate::ram::Ram;
 use std::alloc::AllocError;
 use vm_law::{Ctx, Insn};
 use x86_decode::{DecodeFault, decode};
-use x86_exec::{Effect, complete, is_local, perform, run_local, run_shared};
+use x86_exec::{Effect, NotDone, complete, is_local, perform, perform_done, run_local, run_shared};
 use x86_trap::deliver;
 
 /// Puts the memory of a case into memory.
@@ -24,7 +24,10 @@ fn run_printed(
     out: &mut String,
 ) -> Result<Effect, AllocError> {
     if !case.stored {
-        let effect = run_shared(ctx, insn, len, ram);
+        let effect = match perform_done(ctx, insn, len, ram) {
+            Ok(_) => Effect::Done,
+            Err(NotDone) => run_shared(ctx, insn, len, ram),
+        };
         print_effect(&effect, out)?;
         return Ok(effect);
     }

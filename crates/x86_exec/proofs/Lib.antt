@@ -1,3 +1,4 @@
 pub mod Chains
+pub mod Done
 pub mod Leaves
 pub mod Stores

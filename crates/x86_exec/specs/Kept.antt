@@ -1,11 +1,12 @@
 -- What an instruction leaves, by what it asks and by what it stored.
-use Rattle.std.specs.Prelude.{◌≡◌, ℕ, ◌+◌, ◌≤◌, ◌<◌, ◌^◌, List, length, Option, Some, None, Result, Ok, Err}
+use Rattle.std.specs.Prelude.{◌≡◌, ℕ, ◌+◌, ◌≤◌, ◌<◌, ◌^◌, Bool, true, false, List, length, Option, Some, None, Result, Ok, Err}
 use Rattle.vm_law.specs.Memory.{Memory, written, KeepsSize}
 use Rattle.vm_law.specs.declared.context.Ctx.{Ctx}
 use Rattle.vm_law.specs.declared.insn.Insn.{Insn}
 use Rattle.x86_exec.specs.declared.effect.Effect.{Effect}
 use Rattle.x86_exec.specs.declared.effect.Effect.TheVariants as effect
 use Rattle.x86_exec.specs.declared.effect.Stored.{Stored}
+use Rattle.x86_exec.specs.declared.effect.NotDone.{NotDone}
 use Rattle.x86_exec.specs.declared.effect.Performed.{Performed}
 use Rattle.x86_exec.specs.Shared.{Shared, shared}
 
@@ -36,6 +37,20 @@ Stores (Some s) mem new = IsStored mem new s
 abbrev pub outcome : Result Performed Effect → Ctx → Memory → Result Shared Effect
 outcome (Ok p) c mem = Ok (record { effect = p.effect; ctx = c; memory = mem; stored = p.stored })
 outcome (Err e) c mem = Err e
+
+-- it is done, and asks nothing
+abbrev pub is_done_effect : Effect → Bool
+is_done_effect effect.Done = true
+is_done_effect e = false
+
+abbrev pub is_done : Result Shared Effect → Bool
+is_done (Ok s) = is_done_effect s.effect
+is_done (Err e) = false
+
+-- where it is done this is the context, and memory, after it; else it isn't done
+abbrev pub IsDoneAs : Result (Option Stored) NotDone → Result Shared Effect → Ctx → Memory → Type 0
+IsDoneAs (Ok stored) r c mem = r ≡ Ok (record { effect = effect.Done; ctx = c; memory = mem; stored = stored })
+IsDoneAs (Err e) r c mem = is_done r ≡ false
 
 abbrev pub SharedLeaves : Type 0
 SharedLeaves = (c : Ctx) (insn : Insn) (len : ℕ) (mem : Memory) → Leaves (shared c insn len mem).effect c (shared c insn len mem).ctx mem (shared c insn len mem).memory

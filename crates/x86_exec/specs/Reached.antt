@@ -1,6 +1,6 @@
 -- Where an access goes, or why it can't be made.
 -- Source: Intel SDM volume 3, section 6.15 (general protection), and volume 1, section 3.3.7.1; the Stops are this machine's own.
-use Rattle.std.specs.Prelude.{ℕ, ◌+◌, ◌%◌, ◌≤◌, Bool, false, ◌&&◌, ◌==◌, List, length, Some, Result, Ok, Err, if◌then◌else◌}
+use Rattle.std.specs.Prelude.{ℕ, ◌+◌, ◌%◌, ◌≤◌, Bool, true, false, ◌&&◌, ◌==◌, List, length, Some, Result, Ok, Err, if◌then◌else◌}
 use Rattle.vm_law.specs.Memory.{Memory, read_of}
 use Rattle.vm_law.specs.declared.context.Stop.TheVariants as stop
 use Rattle.vm_bus.specs.Area.{area_in}
@@ -25,6 +25,12 @@ reached plain area.Split = Err (effect.Stop stop.Device)
 reached plain area.Nothing = Err (effect.Stop stop.Memory)
 reached plain area.Code = Ok place.Memory
 reached plain area.Ram = Ok place.Memory
+
+-- all of it is in memory
+unfoldable pub is_memory : Area → Bool
+is_memory area.Code = true
+is_memory area.Ram = true
+is_memory x = false
 
 -- the bytes of a range, which no window has
 unfoldable pub bytes_at : Memory → ℕ → ℕ → Result (List ℕ) Effect

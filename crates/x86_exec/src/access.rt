@@ -1,17 +1,20 @@
 //! Instructions with an operand in memory, or on the stack, and those on registers and flags alone.
-ghost use Rattle.std.specs.Prelude.{◌≡◌, ◌≤◌, ◌+◌, OnErr, IfOk};
+ghost use Rattle.std.specs.Prelude.{◌≡◌, ◌≤◌, ◌+◌, OnErr, IfOk, IsTrue, Ok, None, length};
 ghost use Rattle.vm_law.specs.declared.context.Ctx.{Ctx};
 ghost use Rattle.x86_op.specs.Access.{IsLength, access_of};
-ghost use Rattle.x86_op.specs.Table.{computed};
-ghost use Rattle.x86_exec.specs.Kept.{outcome, Stores};
-ghost use Rattle.x86_exec.specs.Reached.{IsThere};
+ghost use Rattle.vm_bus.specs.Area.{area_in};
+ghost use Rattle.x86_op.specs.Table.{NeverFaults};
+ghost use Rattle.x86_op.specs.declared.access.Way.TheVariants as way;
+ghost use Rattle.x86_exec.specs.Kept.{IsDoneAs, outcome, Stores};
+ghost use Rattle.x86_exec.specs.declared.reached.Place.TheVariants as place;
+ghost use Rattle.x86_exec.specs.Reached.{IsThere, is_memory};
 ghost use Rattle.x86_exec.specs.Shared as spec;
 
-use crate::effect::{Effect, Performed, Stored};
+use crate::effect::{Effect, NotDone, Performed, Stored};
 use crate::number::{load, store};
-use crate::reached::{Place, reach};
+use crate::reached::{Place, is_in_memory, reach};
 use vm_law::{Bytes, Ctx, Insn, Op, Width};
-use x86_op::{Access, Way, access_of, compute, faults, matches_accumulator};
+use x86_op::{Access, Way, access_of, compute, faults, matches_accumulator, plain_access};
 
 #[inline(always)]
 #[tactic(auto, unfolding(crate::specs::Shared::is_plain_op))]
@@ -136,6 +139,56 @@ fn accessed<B: Bytes>(
     }
 }
 
+/// What is loaded from memory; nothing for a mere store.
+#[inline(always)]
+#[tactic(auto, unfolding(crate::specs::Shared::loaded, crate::specs::Shared::number_at))]
+fn read_from<B: Bytes>(bytes: &B, access: &Access) -> u64
+    requires length { IsLength access.now.len }
+    requires inside { access.now.at + access.now.len ≤ length (B.memory bytes.now).bytes }
+    ensures { spec.loaded (B.memory bytes.now) access.now place.Memory access.now.way ≡ Ok result }
+{
+    match access.way {
+        Way::Store => 0,
+        Way::Load | Way::Modify | Way::Compare => load(bytes, access.at, access.len),
+    }
+}
+
+/// Makes an access to memory; one that a division follows which can't be done isn't made.
+#[inline(always)]
+fn access_done<B: Bytes>(
+    ctx: &mut Ctx,
+    insn: &Insn,
+    len: u8,
+    bytes: &mut B,
+    access: &Access,
+) -> Result<Option<Stored>, NotDone>
+    requires length { IsLength access.now.len }
+    requires room { 2 ≤ B.spare bytes.old }
+    ensures done { IsDoneAs result (spec.accessed ctx.old insn.now len (B.memory bytes.old) access.now) ctx.new (B.memory bytes.new) }
+    ensures same { OnErr result ((ctx.new ≡ ctx.old) × (bytes.new ≡ bytes.old)) }
+    ensures stores { IfOk result (λ stored. Stores stored (B.memory bytes.old) (B.memory bytes.new)) }
+    ensures room { B.spare bytes.old ≤ B.spare bytes.new + 2 }
+{
+    if !is_in_memory(bytes, access.at, access.len) {
+        return Err(NotDone);
+    }
+    let read = read_from(bytes, access);
+    if faults(ctx, insn, read) {
+        return Err(NotDone);
+    }
+    let stores = stores(ctx, insn, read, access.way);
+    let number = compute(ctx, insn, len, read);
+    if stores {
+        store(bytes, access.at, access.len, number);
+        Ok(Some(Stored {
+            at: access.at,
+            len: access.len,
+        }))
+    } else {
+        Ok(None)
+    }
+}
+
 /// On registers and flags alone.
 #[inline(never)]
 #[tactic(auto, unfolding(crate::specs::Shared::alone))]
@@ -149,10 +202,148 @@ fn alone<B: Bytes>(ctx: &mut Ctx, insn: &Insn, len: u8, bytes: &B) -> Result<Per
     Ok(Performed::asking(Effect::Done))
 }
 
-/// An instruction with the access that it makes, if any.
+/// On registers and flags alone, unless it is a division that can't be done.
+#[inline(never)]
+#[tactic(auto, unfolding(crate::specs::Shared::alone, crate::specs::Shared::divides))]
+fn alone_done<B: Bytes>(
+    ctx: &mut Ctx,
+    insn: &Insn,
+    len: u8,
+    bytes: &B,
+) -> Result<Option<Stored>, NotDone>
+    ensures done { IsDoneAs result (spec.alone ctx.old insn.now len (B.memory bytes.now)) ctx.new (B.memory bytes.now) }
+    ensures same { OnErr result (ctx.new ≡ ctx.old) }
+    ensures stores { IfOk result (λ stored. stored ≡ None) }
+{
+    if faults(ctx, insn, 0) {
+        return Err(NotDone);
+    }
+    compute(ctx, insn, len, 0);
+    Ok(None)
+}
+
+/// Any instruction with the access that it makes, if any, where it is done by itself.
+#[inline(never)]
+#[tactic(auto, unfolding(crate::specs::Shared::with_access))]
+fn any_access_done<B: Bytes>(
+    ctx: &mut Ctx,
+    insn: &Insn,
+    len: u8,
+    bytes: &mut B,
+) -> Result<Option<Stored>, NotDone>
+    requires room { 2 ≤ B.spare bytes.old }
+    ensures done { IsDoneAs result (spec.with_access ctx.old insn.now len (B.memory bytes.old) (access_of ctx.old insn.now len)) ctx.new (B.memory bytes.new) }
+    ensures same { OnErr result ((ctx.new ≡ ctx.old) × (bytes.new ≡ bytes.old)) }
+    ensures stores { IfOk result (λ stored. Stores stored (B.memory bytes.old) (B.memory bytes.new)) }
+    ensures room { B.spare bytes.old ≤ B.spare bytes.new + 2 }
+{
+    match access_of(ctx, insn, len) {
+        None => alone_done(ctx, insn, len, bytes),
+        Some(access) => access_done(ctx, insn, len, bytes, &access),
+    }
+}
+
+/// Loads what an instruction reads, which no division follows, and runs it.
+#[inline(always)]
+fn load_done<B: Bytes>(
+    ctx: &mut Ctx,
+    insn: &Insn,
+    len: u8,
+    bytes: &B,
+    access: &Access,
+) -> Option<Stored>
+    requires length { IsLength access.now.len }
+    requires way { access.now.way ≡ way.Load }
+    requires memory { IsTrue (is_memory (area_in (B.memory bytes.now) access.now.at access.now.len)) }
+    requires inside { access.now.at + access.now.len ≤ length (B.memory bytes.now).bytes }
+    requires divides { NeverFaults insn.now }
+    ensures done { IsDoneAs (Ok result) (spec.accessed ctx.old insn.now len (B.memory bytes.now) access.now) ctx.new (B.memory bytes.now) }
+    ensures stores { result ≡ None }
+{
+    let read = load(bytes, access.at, access.len);
+    compute(ctx, insn, len, read);
+    None
+}
+
+/// Runs an instruction that only stores, and behind which no division can fail, and stores what it computed.
+#[inline(always)]
+fn store_done<B: Bytes>(
+    ctx: &mut Ctx,
+    insn: &Insn,
+    len: u8,
+    bytes: &mut B,
+    access: &Access,
+) -> Option<Stored>
+    requires length { IsLength access.now.len }
+    requires way { access.now.way ≡ way.Store }
+    requires memory { IsTrue (is_memory (area_in (B.memory bytes.old) access.now.at access.now.len)) }
+    requires inside { access.now.at + access.now.len ≤ length (B.memory bytes.old).bytes }
+    requires divides { NeverFaults insn.now }
+    requires room { 2 ≤ B.spare bytes.old }
+    ensures done { IsDoneAs (Ok result) (spec.accessed ctx.old insn.now len (B.memory bytes.old) access.now) ctx.new (B.memory bytes.new) }
+    ensures stores { Stores result (B.memory bytes.old) (B.memory bytes.new) }
+    ensures room { B.spare bytes.old ≤ B.spare bytes.new + 2 }
+{
+    let number = compute(ctx, insn, len, 0);
+    store(bytes, access.at, access.len, number);
+    Some(Stored {
+        at: access.at,
+        len: access.len,
+    })
+}
+
+/// Makes an access to memory that no division follows.
+#[inline(always)]
+fn plain_done<B: Bytes>(
+    ctx: &mut Ctx,
+    insn: &Insn,
+    len: u8,
+    bytes: &mut B,
+    access: &Access,
+) -> Result<Option<Stored>, NotDone>
+    requires length { IsLength access.now.len }
+    requires some { 1 ≤ access.now.len }
+    requires divides { NeverFaults insn.now }
+    requires room { 2 ≤ B.spare bytes.old }
+    ensures done { IsDoneAs result (spec.accessed ctx.old insn.now len (B.memory bytes.old) access.now) ctx.new (B.memory bytes.new) }
+    ensures same { OnErr result ((ctx.new ≡ ctx.old) × (bytes.new ≡ bytes.old)) }
+    ensures stores { IfOk result (λ stored. Stores stored (B.memory bytes.old) (B.memory bytes.new)) }
+    ensures room { B.spare bytes.old ≤ B.spare bytes.new + 2 }
+{
+    if !is_in_memory(bytes, access.at, access.len) {
+        return Err(NotDone);
+    }
+    match access.way {
+        Way::Load => Ok(load_done(ctx, insn, len, bytes, access)),
+        Way::Store => Ok(store_done(ctx, insn, len, bytes, access)),
+        Way::Modify | Way::Compare => access_done(ctx, insn, len, bytes, access),
+    }
+}
+
+/// An instruction with the access that it makes, if any, where it is done by itself. What guests run most has code of its own.
 #[inline(always)]
 #[tactic(auto, unfolding(crate::specs::Shared::with_access))]
-fn with_any_access<B: Bytes>(
+pub(crate) fn with_access_done<B: Bytes>(
+    ctx: &mut Ctx,
+    insn: &Insn,
+    len: u8,
+    bytes: &mut B,
+) -> Result<Option<Stored>, NotDone>
+    requires room { 2 ≤ B.spare bytes.old }
+    ensures done { IsDoneAs result (spec.with_access ctx.old insn.now len (B.memory bytes.old) (access_of ctx.old insn.now len)) ctx.new (B.memory bytes.new) }
+    ensures same { OnErr result ((ctx.new ≡ ctx.old) × (bytes.new ≡ bytes.old)) }
+    ensures stores { IfOk result (λ stored. Stores stored (B.memory bytes.old) (B.memory bytes.new)) }
+    ensures room { B.spare bytes.old ≤ B.spare bytes.new + 2 }
+{
+    match plain_access(ctx, insn, len) {
+        Some(access) => plain_done(ctx, insn, len, bytes, &access),
+        None => any_access_done(ctx, insn, len, bytes),
+    }
+}
+
+/// An instruction with the access that it makes, if any.
+#[tactic(auto, unfolding(crate::specs::Shared::with_access))]
+pub(crate) fn with_access<B: Bytes>(
     ctx: &mut Ctx,
     insn: &Insn,
     len: u8,
@@ -167,29 +358,5 @@ fn with_any_access<B: Bytes>(
     match access_of(ctx, insn, len) {
         None => alone(ctx, insn, len, bytes),
         Some(access) => accessed(ctx, insn, len, bytes, &access),
-    }
-}
-
-/// The same. The instructions that guests run most have code of their own, in which their operation is known.
-#[inline(always)]
-pub(crate) fn with_access<B: Bytes>(
-    ctx: &mut Ctx,
-    insn: &Insn,
-    len: u8,
-    bytes: &mut B,
-) -> Result<Performed, Effect>
-    requires room { 2 ≤ B.spare bytes.old }
-    ensures outcome { outcome result ctx.new (B.memory bytes.new) ≡ spec.with_access ctx.old insn.now len (B.memory bytes.old) (access_of ctx.old insn.now len) }
-    ensures refused { OnErr result ((ctx.new ≡ ctx.old) × (bytes.new ≡ bytes.old)) }
-    ensures stores { IfOk result (λ p. Stores p.stored (B.memory bytes.old) (B.memory bytes.new)) }
-    ensures room { B.spare bytes.old ≤ B.spare bytes.new + 2 }
-{
-    match &insn.op {
-        Op::Mov(..) => with_any_access(ctx, insn, len, bytes),
-        Op::Push(_) => with_any_access(ctx, insn, len, bytes),
-        Op::Pop(_) => with_any_access(ctx, insn, len, bytes),
-        Op::Call(_) => with_any_access(ctx, insn, len, bytes),
-        Op::Ret(_) => with_any_access(ctx, insn, len, bytes),
-        _ => with_any_access(ctx, insn, len, bytes),
     }
 }

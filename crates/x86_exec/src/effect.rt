@@ -41,6 +41,10 @@ pub struct Performed {
     pub stored: Option<Stored>,
 }
 
+/// An instruction isn't done by itself, and has changed nothing.
+#[derive(Clone, Copy, Debug, PartialEq, Eq)]
+pub struct NotDone;
+
 impl Performed {
     /// Nothing was stored.
     pub(crate) fn asking(effect: Effect) -> Performed

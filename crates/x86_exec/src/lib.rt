@@ -6,7 +6,7 @@
 //! stands in `x86_op`, what an address leads to in `vm_bus`; this crate says which access is allowed, in which order it
 //! is judged, and what is read and written. Contracts pin effect, context and memory exactly, for every context and
 //! instruction. `perform` says besides which bytes of memory were stored. A store may go to the code part; an instruction
-//! that isn't done changes nothing.
+//! that isn't done changes nothing. `perform_done` runs an instruction only where nothing is asked.
 //!
 //! It follows the Intel SDM, volume 1, section 3.3.7.1 (canonical addresses), volume 2, the pages of the instructions,
 //! and volume 3, section 6.15 (exceptions). Without paging and segments, an access is to memory as it stands. Why an
@@ -21,7 +21,7 @@ mod reached;
 mod shared;
 mod system;
 
-pub use effect::{Effect, Performed, Stored};
+pub use effect::{Effect, NotDone, Performed, Stored};
 pub use law::{shared_keeps_size, shared_leaves, shared_stores};
-pub use shared::{complete, perform, run_shared};
+pub use shared::{complete, perform, perform_done, run_shared};
 pub use x86_op::{is_local, run_local};

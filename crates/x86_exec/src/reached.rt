@@ -1,5 +1,5 @@
 //! Where an access goes, or why it can't be made.
-ghost use Rattle.std.specs.Prelude.{◌≡◌, ◌<◌, ◌≤◌, ◌+◌, length, IfOk};
+ghost use Rattle.std.specs.Prelude.{◌≡◌, ◌<◌, ◌≤◌, ◌+◌, length, IfOk, IsTrue};
 ghost use Rattle.vm_bus.specs.Area.{area_in};
 ghost use Rattle.x86_exec.specs.Reached as spec;
 
@@ -54,6 +54,20 @@ pub(crate) fn reach<B: Bytes>(bytes: &B, plain: bool, at: u64, len: u8) -> Resul
 {
     let area = area_at(at, u64::from(len), bytes.code(), bytes.size());
     judged(plain, area)
+}
+
+/// Whether an access to `len` bytes goes to memory.
+#[inline(always)]
+#[tactic(auto, unfolding(crate::specs::Reached::is_memory))]
+pub(crate) fn is_in_memory<B: Bytes>(bytes: &B, at: u64, len: u8) -> bool
+    requires { 0 < len }
+    ensures is { result ≡ spec.is_memory (area_in (B.memory bytes.now) at len) }
+    ensures there { IsTrue result → at + len ≤ length (B.memory bytes.now).bytes }
+{
+    match area_at(at, u64::from(len), bytes.code(), bytes.size()) {
+        Area::Code | Area::Ram => true,
+        _ => false,
+    }
 }
 
 /// Reads a range of some bytes that is all in memory, and in no window.

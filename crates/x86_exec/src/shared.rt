@@ -2,11 +2,11 @@
 ghost use Rattle.std.specs.Prelude.{◌≡◌, ◌%◌, ◌≤◌, ◌+◌, OnErr, IfOk};
 ghost use Rattle.vm_law.specs.Memory.{KeepsSize};
 ghost use Rattle.x86_alu.specs.Operand.{span};
-ghost use Rattle.x86_exec.specs.Kept.{Leaves, Stores, outcome};
+ghost use Rattle.x86_exec.specs.Kept.{IsDoneAs, Leaves, Stores, outcome};
 ghost use Rattle.x86_exec.specs.Shared as spec;
 
-use crate::access::with_access;
-use crate::effect::{Effect, Performed};
+use crate::access::{with_access, with_access_done};
+use crate::effect::{Effect, NotDone, Performed, Stored};
 use crate::system::{iret, lidt, out, port_of};
 use vm_law::{Bytes, Ctx, Insn, Loc, Op, Width};
 use x86_op::{compute, pass, set_value};
@@ -76,6 +76,44 @@ pub fn perform<B: Bytes>(ctx: &mut Ctx, insn: &Insn, len: u8, bytes: &mut B) -> 
     match attempt(ctx, insn, len, bytes) {
         Ok(performed) => performed,
         Err(effect) => Performed::asking(effect),
+    }
+}
+
+/// Runs an instruction of `len` bytes where it is done by itself, as [`perform`] does, and says which bytes of memory it stored,
+/// if any.
+///
+/// `NotDone` exactly where the machine around its vCPU is asked for something: the delivery of an exception, a port, a device's
+/// window, the halt, or the end of the run. Then context and memory are as before.
+///
+/// There is to be room for two pages of memory; as much is taken at most.
+///
+/// Source: Intel SDM volume 2, the pages of the instructions.
+#[inline(always)]
+#[tactic(auto, unfolding(crate::specs::Shared::attempted, crate::specs::Shared::out))]
+pub fn perform_done<B: Bytes>(
+    ctx: &mut Ctx,
+    insn: &Insn,
+    len: u8,
+    bytes: &mut B,
+) -> Result<Option<Stored>, NotDone>
+    requires room { 2 ≤ B.spare bytes.old }
+    ensures done { IsDoneAs result (spec.attempted ctx.old insn.now len (B.memory bytes.old) insn.now.op) ctx.new (B.memory bytes.new) }
+    ensures same { OnErr result ((ctx.new ≡ ctx.old) × (bytes.new ≡ bytes.old)) }
+    ensures stores { IfOk result (λ stored. Stores stored (B.memory bytes.old) (B.memory bytes.new)) }
+    ensures size { KeepsSize (B.memory bytes.old) (B.memory bytes.new) }
+    ensures room { B.spare bytes.old ≤ B.spare bytes.new + 2 }
+{
+    match &insn.op {
+        Op::In(_) | Op::Out(_) | Op::Int(_) | Op::Ud2 | Op::Hlt => Err(NotDone),
+        Op::Iret => match iret(ctx, len, bytes) {
+            Ok(performed) => Ok(performed.stored),
+            Err(_) => Err(NotDone),
+        },
+        Op::Lidt(operand) => match lidt(ctx, len, bytes, operand) {
+            Ok(performed) => Ok(performed.stored),
+            Err(_) => Err(NotDone),
+        },
+        _ => with_access_done(ctx, insn, len, bytes),
     }
 }
 

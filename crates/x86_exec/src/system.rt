@@ -4,6 +4,7 @@ ghost use Rattle.byteorder.specs.Endian.{little_number};
 ghost use Rattle.vm_law.specs.Memory.{Memory};
 ghost use Rattle.x86_exec.specs.Kept.{outcome, Stores};
 ghost use Rattle.x86_exec.specs.Shared as spec;
+ghost use Rattle.x86_exec.specs.declared.effect.Effect.TheVariants as effect;
 
 use crate::effect::{Effect, Performed};
 use crate::reached::read_at;
@@ -45,6 +46,7 @@ fn return_by(ctx: &mut Ctx, len: u8, frame: &[u8; 40])
 #[tactic(auto, unfolding(crate::specs::Shared::iret))]
 pub(crate) fn iret<B: Bytes>(ctx: &mut Ctx, len: u8, bytes: &B) -> Result<Performed, Effect>
     ensures outcome { outcome result ctx.new (B.memory bytes.now) ≡ spec.iret ctx.old len (B.memory bytes.now) }
+    ensures done { IfOk result (λ p. p.effect ≡ effect.Done) }
     ensures refused { OnErr result (ctx.new ≡ ctx.old) }
     ensures stores { IfOk result (λ p. Stores p.stored (B.memory bytes.now) (B.memory bytes.now)) }
 {
@@ -71,6 +73,7 @@ pub(crate) fn lidt<B: Bytes>(
     operand: &Mem,
 ) -> Result<Performed, Effect>
     ensures outcome { outcome result ctx.new (B.memory bytes.now) ≡ spec.lidt ctx.old len (B.memory bytes.now) operand.now }
+    ensures done { IfOk result (λ p. p.effect ≡ effect.Done) }
     ensures refused { OnErr result (ctx.new ≡ ctx.old) }
     ensures stores { IfOk result (λ p. Stores p.stored (B.memory bytes.now) (B.memory bytes.now)) }
 {

@@ -1,4 +1,5 @@
 pub mod Cached
 pub mod Changes
 pub mod Forgetting
+pub mod Sharing
 pub mod Steps

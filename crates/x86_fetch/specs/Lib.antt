@@ -1,3 +1,4 @@
 pub mod Fetching
 pub mod Kept
+pub mod Sharing
 pub mod Slices

@@ -1,9 +1,13 @@
 //! Guest memory that decodes each instruction of its code once.
-ghost use Rattle.std.specs.Prelude.{◌≡◌, ℕ, ◌+◌, ◌*◌, ◌/◌, ◌<◌, ◌≤◌, false, length, replicate, is_some, slice_index, slice_index_or, IfOk, OnOk, IfSome};
-ghost use Rattle.vm_law.specs.Memory.{code_of, read_of, written};
+ghost use Rattle.std.specs.Prelude.{◌≡◌, ℕ, ◌+◌, ◌*◌, ◌/◌, ◌^◌, ◌<◌, ◌≤◌, false, length, replicate, is_some, slice_index, slice_index_or, IfOk, OnErr, OnOk, IfSome};
+ghost use Rattle.vm_law.specs.Memory.{KeepsSize, Memory, code_of, read_of, written};
 ghost use Rattle.guest_ram.specs.GuestRam.{IsSize, IsSound, AbsentAreZero, Stand, loaded};
 ghost use Rattle.x86_fetch.specs.Fetching as fetching_spec;
+ghost use Rattle.x86_fetch.specs.Kept.{AreKept};
+ghost use Rattle.x86_fetch.specs.Sharing.{IsNextDoneAs};
 ghost use Rattle.x86_fetch.specs.Slices as spec;
+ghost use Rattle.x86_exec.specs.Kept.{IsDoneAs, Stores};
+ghost use Rattle.x86_exec.specs.Shared.{attempted};
 
 use crate::fetching::{self, Next};
 use crate::slices;
@@ -11,7 +15,8 @@ use crate::table::Table;
 use guest_ram::{GuestRam, writes_keep_code};
 use std::alloc::Global;
 use std::marker::Model;
-use vm_law::{Bytes, Ctx, FlatImage, OutOfMemory};
+use vm_law::{Bytes, Ctx, FlatImage, Insn, OutOfMemory};
+use x86_exec::{NotDone, Stored, perform_done};
 
 /// The memory of a guest, with a table of the instructions that were decoded in its code.
 ///
@@ -123,6 +128,71 @@ impl CachedRam {
         fetching::next_kept(&self.ram, &mut self.table, ctx)
     }
 
+    /// Runs the instruction at RIP of a context where it isn't local, and is done by itself on memory and on the context. Says
+    /// which bytes it stored, if any. It is kept, so that it isn't decoded again.
+    ///
+    /// `NotDone` exactly where it is local, where it asks something of the machine around its vCPU, and where none stands there.
+    /// Then context and memory are as before.
+    ///
+    /// There is to be room for two pages of memory; as much is taken at most.
+    #[inline(always)]
+    pub fn share_done(&mut self, ctx: &mut Ctx) -> Result<Option<Stored>, NotDone>
+        requires room { 2 ≤ self.old.spare }
+        ensures done { IsNextDoneAs result ctx.old self.old.memory (fetching_spec.next_of (code_of self.old.memory) ctx.old) ctx.new self.new.memory }
+        ensures same { OnErr result ((ctx.new ≡ ctx.old) × (self.new ≡ self.old)) }
+        ensures stores { IfOk result (λ stored. Stores stored self.old.memory self.new.memory) }
+        ensures size { KeepsSize self.old.memory self.new.memory }
+        ensures room { self.old.spare ≤ self.new.spare + 2 }
+    {
+        self.ram.is_sound();
+        match self.table.kept(ctx.rip) {
+            Some(found) => {
+                if found.is_local_in(ctx) {
+                    return Err(NotDone);
+                }
+                let done = perform_done(ctx, &found.insn, found.len, &mut self.ram);
+                if let Ok(stored) = done {
+                    forget_stored(&mut self.table, self.ram.code(), stored);
+                }
+                done
+            }
+            None => self.share_anew(ctx),
+        }
+    }
+
+    /// The same where it isn't kept yet.
+    #[inline(never)]
+    fn share_anew(&mut self, ctx: &mut Ctx) -> Result<Option<Stored>, NotDone>
+        requires room { 2 ≤ self.old.spare }
+        ensures done { IsNextDoneAs result ctx.old self.old.memory (fetching_spec.next_of (code_of self.old.memory) ctx.old) ctx.new self.new.memory }
+        ensures same { OnErr result ((ctx.new ≡ ctx.old) × (self.new ≡ self.old)) }
+        ensures stores { IfOk result (λ stored. Stores stored self.old.memory self.new.memory) }
+        ensures size { KeepsSize self.old.memory self.new.memory }
+        ensures room { self.old.spare ≤ self.new.spare + 2 }
+    {
+        match self.next_kept(ctx) {
+            Next::Shared { insn, len } => self.share(ctx, &insn, len),
+            Next::Local { .. } | Next::Undefined | Next::OutOfCode => Err(NotDone),
+        }
+    }
+
+    /// Runs an instruction where it is done by itself.
+    fn share(&mut self, ctx: &mut Ctx, insn: &Insn, len: u8) -> Result<Option<Stored>, NotDone>
+        requires room { 2 ≤ self.old.spare }
+        ensures done { IsDoneAs result (attempted ctx.old insn.now len self.old.memory insn.now.op) ctx.new self.new.memory }
+        ensures same { OnErr result ((ctx.new ≡ ctx.old) × (self.new ≡ self.old)) }
+        ensures stores { IfOk result (λ stored. Stores stored self.old.memory self.new.memory) }
+        ensures size { KeepsSize self.old.memory self.new.memory }
+        ensures room { self.old.spare ≤ self.new.spare + 2 }
+    {
+        self.ram.is_sound();
+        let done = perform_done(ctx, insn, len, &mut self.ram);
+        if let Ok(stored) = done {
+            forget_stored(&mut self.table, self.ram.code(), stored);
+        }
+        done
+    }
+
     /// Runs local instructions for as long as there are any, but at most `most`, and says how many it ran. Memory stays.
     pub fn run_slice(&mut self, ctx: &mut Ctx, most: u16) -> u16
         ensures same { self.new ≡ self.old }
@@ -138,6 +208,20 @@ impl CachedRam {
         ensures ctx { ctx.new ≡ spec.stepped_by (code_of self.old.memory) ctx.old count }
     {
         slices::run_many(&self.ram, &mut self.table, ctx, count);
+    }
+}
+
+/// Makes a table right again for a code part, of so many bytes, into which an instruction stored.
+#[inline(always)]
+fn forget_stored(table: &mut Table, code: u64, stored: Option<Stored>)
+    requires { IfSome stored (λ s. s.at + s.len < 2 ^ 63) }
+    ensures { (old new : Memory) → old.code ≡ code → Stores stored old new → AreKept (code_of old) table.old → AreKept (code_of new) table.new }
+{
+    writes_keep_code();
+    if let Some(stored) = stored {
+        if stored.at < code {
+            table.forget(stored.at, u64::from(stored.len));
+        }
     }
 }
 

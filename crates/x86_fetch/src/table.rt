@@ -24,6 +24,15 @@ pub struct Found {
 }
 
 impl Found {
+    /// Whether it is local in a context, where a division that faults isn't.
+    #[inline(always)]
+    pub fn is_local_in(&self, ctx: &Ctx) -> bool
+        requires { self.now.local ≡ is_local self.now.insn }
+        ensures { result ≡ fetching.is_local_next (fetching.next_decoded ctx.now (Ok (self.now.insn, self.now.len))) }
+    {
+        self.local && !faults(ctx, &self.insn, 0)
+    }
+
     /// What it is in a context: a division that faults there isn't local.
     #[inline(always)]
     pub fn next(&self, ctx: &Ctx) -> Next

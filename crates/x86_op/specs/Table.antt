@@ -1,7 +1,7 @@
 -- Each operation by its line: what it touches, what it computes, and whether it faults. c is the context behind the
 -- instruction, w its width, and read what was read at its operand in memory or from the stack.
 -- Source: Intel SDM volume 2, the pages of the instructions.
-use Rattle.std.specs.Prelude.{ℕ, Bool, true, false, not}
+use Rattle.std.specs.Prelude.{◌≡◌, ℕ, Bool, true, false, not}
 use Rattle.vm_law.specs.declared.context.Ctx.{Ctx}
 use Rattle.vm_law.specs.declared.insn.Width.{Width}
 use Rattle.vm_law.specs.declared.insn.Width.TheVariants as width
@@ -118,6 +118,9 @@ computed c insn len read = (line_of insn).done (passed c len) read
 
 abbrev pub faults : Ctx → Insn → ℕ → Bool
 faults c insn read = (line_of insn).faults c read
+
+abbrev pub NeverFaults : Insn → Type 0
+NeverFaults insn = (c : Ctx) (read : ℕ) → faults c insn read ≡ false
 
 abbrev pub matches_accumulator : Ctx → Insn → ℕ → Bool
 matches_accumulator c insn read = (line_of insn).matches c read

@@ -4,6 +4,7 @@ ghost use Rattle.std.specs.Prelude.{◌≡◌, ◌/◌, ◌≤◌, None, IfSome,
 ghost use Rattle.x86_alu.specs.Operand.{size_of};
 ghost use Rattle.x86_op.specs.Access as spec;
 ghost use Rattle.x86_op.specs.Operand.{passed};
+ghost use Rattle.x86_op.specs.Table.{NeverFaults};
 
 use crate::address::address_behind;
 use crate::flow::{BP, SP, top_of};
@@ -70,7 +71,7 @@ fn operand(ctx: &Ctx, len: u8, way: Way, width: Width, mem: &Mem) -> Option<Acce
 }
 
 // The access by what an instruction touches.
-#[inline(always)]
+#[inline(never)]
 #[tactic(auto, using(crate::proofs::Passed::as_before), unfolding(crate::specs::Access::access_to, crate::specs::Access::access_of))]
 fn access_by_touch(ctx: &Ctx, insn: &Insn, len: u8) -> Option<Access>
     ensures result { result ≡ spec.access_of ctx.now insn.now len }
@@ -87,18 +88,17 @@ fn access_by_touch(ctx: &Ctx, insn: &Insn, len: u8) -> Option<Access>
     }
 }
 
-/// The access to memory that an instruction of `len` bytes makes, where it makes one; `ctx` is the context before it.
-///
-/// That of IRETQ and LIDT, which pop five numbers and read ten bytes, is left to whoever runs them.
+/// The access of a MOV, PUSH, POP, CALL or RET of `len` bytes, which guests run most: a load or a store, behind which no
+/// division follows. `None` says nothing.
 #[inline(always)]
-#[tactic(auto, unfolding(crate::specs::Access::access_of, crate::specs::Table::line, crate::specs::Touch::with_source, crate::specs::Touch::operand, crate::specs::Touch::either, crate::specs::Touch::in_memory, crate::specs::Touch::source_in_memory))]
-pub fn access_of(ctx: &Ctx, insn: &Insn, len: u8) -> Option<Access>
-    ensures result { result ≡ spec.access_of ctx.now insn.now len }
+#[tactic(auto, using(crate::proofs::Passed::as_before), unfolding(crate::specs::Access::access_of, crate::specs::Access::access_to, crate::specs::Table::line, crate::specs::Touch::with_source, crate::specs::Touch::operand, crate::specs::Touch::either, crate::specs::Touch::in_memory, crate::specs::Touch::source_in_memory))]
+pub fn plain_access(ctx: &Ctx, insn: &Insn, len: u8) -> Option<Access>
+    ensures result { IfSome result (λ access. spec.access_of ctx.now insn.now len ≡ Some access) }
     ensures length { IfSome result (λ access. spec.IsLength access.len) }
     ensures some { IfSome result (λ access. 1 ≤ access.len) }
     ensures most { IfSome result (λ access. access.len ≤ 8) }
+    ensures divides { IfSome result (λ access. NeverFaults insn.now) }
 {
-    // The two that guests run most have no copy of their operand made.
     match &insn.op {
         Op::Mov(Loc::Mem(mem), _) => operand(ctx, len, Way::Store, insn.width, mem),
         Op::Mov(Loc::Reg(_), Src::Loc(Loc::Mem(mem))) => operand(
@@ -108,7 +108,25 @@ pub fn access_of(ctx: &Ctx, insn: &Insn, len: u8) -> Option<Access>
             insn.width,
             mem,
         ),
-        _ => access_by_touch(ctx, insn, len),
+        Op::Push(_) | Op::Call(_) => stack(Way::Store, top_of(ctx)),
+        Op::Pop(_) | Op::Ret(_) => stack(Way::Load, register(ctx, SP)),
+        _ => None,
+    }
+}
+
+/// The access to memory that an instruction of `len` bytes makes, where it makes one; `ctx` is the context before it.
+///
+/// That of IRETQ and LIDT, which pop five numbers and read ten bytes, is left to whoever runs them.
+#[inline(always)]
+pub fn access_of(ctx: &Ctx, insn: &Insn, len: u8) -> Option<Access>
+    ensures result { result ≡ spec.access_of ctx.now insn.now len }
+    ensures length { IfSome result (λ access. spec.IsLength access.len) }
+    ensures some { IfSome result (λ access. 1 ≤ access.len) }
+    ensures most { IfSome result (λ access. access.len ≤ 8) }
+{
+    match plain_access(ctx, insn, len) {
+        Some(access) => Some(access),
+        None => access_by_touch(ctx, insn, len),
     }
 }
 

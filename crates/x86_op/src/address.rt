@@ -45,6 +45,7 @@ pub fn address_of(ctx: &Ctx, mem: &Mem) -> u64
 
 /// The address of an operand of an instruction of `len` bytes, modulo 2^64. `ctx` is the context before it.
 /// Source: Intel SDM volume 1, section 3.7.5, and volume 2, section 2.2.1.6.
+#[inline(always)]
 #[tactic(auto, using(crate::proofs::Passed::address_of_passed))]
 pub fn address_behind(ctx: &Ctx, len: u8, mem: &Mem) -> u64
     ensures { result ≡ spec.address_of (passed ctx.now len) mem.now }

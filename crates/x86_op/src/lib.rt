@@ -23,7 +23,7 @@ mod operand;
 mod table;
 mod touch;
 
-pub use access::{Access, Way, access_of, is_local, local_has_no_access};
+pub use access::{Access, Way, access_of, is_local, local_has_no_access, plain_access};
 pub use address::{address_behind, address_of};
 pub use flow::masked_flags;
 pub use operand::{pass, register, set_register, set_value, truncated, value_at};

@@ -129,7 +129,7 @@ fn done_word(ctx: &mut Ctx, op: &Op, read: u64) -> u64
 }
 
 // The same of any operation. Each width has code of its own.
-#[inline(always)]
+#[inline(never)]
 fn done_at(ctx: &mut Ctx, op: &Op, width: Width, read: u64) -> u64
     ensures ctx { ctx.new ≡ ((spec.line width op.now).done ctx.old read).ctx }
     ensures stored { result ≡ ((spec.line width op.now).done ctx.old read).stored }
@@ -147,13 +147,29 @@ fn done_at(ctx: &mut Ctx, op: &Op, width: Width, read: u64) -> u64
 ///
 /// NOP, PAUSE, ENDBR64, fences, and what isn't computed here, IN, OUT, INT, IRETQ, UD2, LIDT and HLT, only pass. A division
 /// that can't be done does so too: ask [`faults`] first. Source: Intel SDM volume 2.
+///
+/// What reaches memory most often has code of its own.
 #[inline(always)]
+#[tactic(auto, unfolding(crate::specs::Table::line))]
 pub fn compute(ctx: &mut Ctx, insn: &Insn, len: u8, read: u64) -> u64
     ensures ctx { ctx.new ≡ (spec.computed ctx.old insn.now len read).ctx }
     ensures stored { result ≡ (spec.computed ctx.old insn.now len read).stored }
 {
     pass(ctx, len);
-    done_at(ctx, &insn.op, insn.width, read)
+    match &insn.op {
+        Op::Mov(loc, src) => mov(ctx, insn.width, read, loc, src),
+        Op::Call(by) => call(ctx, *by),
+        Op::Push(src) => push(ctx, read, src),
+        Op::Ret(n) => {
+            ret(ctx, read, *n);
+            0
+        }
+        Op::Pop(r) => {
+            pop(ctx, read, *r);
+            0
+        }
+        _ => done_at(ctx, &insn.op, insn.width, read),
+    }
 }
 
 /// Whether an instruction raises #DE: a division by 0, or one whose quotient doesn't fit. `ctx` is the context before it.
@@ -201,7 +217,8 @@ fn run_unary(ctx: &mut Ctx, width: Width, len: u8, op: UnaryOp, loc: &Loc) -> bo
 fn run_any(ctx: &mut Ctx, insn: &Insn, len: u8)
     ensures { ctx.new ≡ (spec.computed ctx.old insn.now len 0).ctx }
 {
-    compute(ctx, insn, len, 0);
+    pass(ctx, len);
+    done_at(ctx, &insn.op, insn.width, 0);
 }
 
 /// Runs a local instruction of `len` bytes. `false` is #DE, which leaves the context.

@@ -1,4 +1,5 @@
-use Rattle.std.proofs.Common.{◌≡◌, ◌<◌, true, false, sym, ap, subst, ◌∙◌, arith}
+use Rattle.std.specs.Prelude.{slice_index}
+use Rattle.std.proofs.Common.{◌≡◌, ◌<◌, ◌≤◌, true, false, sym, ap, subst, ◌∙◌, arith}
 use Rattle.std.specs.List.{list_all}
 use Rattle.vm_state.specs.Machine.{cpu_at, cpu_count, is_running}
 use Rattle.vm_state.specs.State.{State}
@@ -20,6 +21,13 @@ are_kept-requires-clause-few g c =
     let f = (is_most r.copies.code r.start r.left).few in
     let e = out.1 in
     omega (arith, e, f)
+
+pub are_kept-requires-clause-earlier : goal.are_kept-requires-clause-earlier
+are_kept-requires-clause-earlier g c =
+    let s = c.args.board.now.state in
+    let r = c.self.inside in
+    let fits = subst (λ (v : RunnerView). RunnerFits s v) (sym c.self.view_is) c.requires.fits in
+    λ page. subst (λ (t : State). slice_index r.copies.versions page ≤ slice_index t.versions page) (sym c.run.ensures) (fits.copies.earlier page)
 
 pub commit-requires-clause-may : goal.commit-requires-clause-may
 commit-requires-clause-may g c =

@@ -1,8 +1,8 @@
 //! A whole plan, byte for byte, worked out by hand.
 
-use crate::plan_json;
 use std::test::Fail;
 use vm_law::{DiskPlan, Plan, Seq, Text};
+use vm_report::plan_json;
 
 #[test]
 fn a_plan(rt: HostRuntime) -> Result<(), Fail> {

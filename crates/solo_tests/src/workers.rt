@@ -1,4 +1,6 @@
-use crate::Worker;
+//! Workers that have done nothing yet.
+
+use vm_blkwork::Worker;
 use vm_host::MemImage;
 
 #[test]
