@@ -108,10 +108,30 @@ impl Control {
     }
 
     /// Whether nothing failed and no entry of control's list is lawful: then a turn adds nothing.
+    #[inline(always)]
     fn rests(&self, run: &Run) -> bool
         ensures { result ≡ true → turn_of run.now.state self.now.failed ≡ [] }
     {
         !failures::any(&self.events) && run.control_rests()
+    }
+
+    /// Whether a turn has nothing to do: nothing failed, no entry of control's list is lawful, the console has received nothing
+    /// since, the run isn't closed, and no memory was wanted.
+    #[inline(always)]
+    fn has_nothing<I: Image + Drop>(&self, board: &Board<I>) -> bool
+        requires fits { ControlFits board.now.state self.now }
+        ensures rests { result ≡ true → turn_of board.now.state self.now.failed ≡ [] }
+        ensures whole { result ≡ true → self.now.wrote ++ self.now.held ≡ board.now.state.console }
+        ensures open { result ≡ true → board.now.state.closed ≡ false }
+        ensures fed { result ≡ true → board.now.starved ≡ false }
+    {
+        if board.starved()
+            || board.run().closed()
+            || self.console.len() < board.run().console().len()
+        {
+            return false;
+        }
+        self.rests(board.run())
     }
 
     /// Takes a turn.
@@ -120,7 +140,26 @@ impl Control {
     /// list that is lawful: Turn, Yield, Claim, Feed, Tick, End, Wish, Meet, Done, Close. It takes over what the console has
     /// received since. `Left` comes exactly where the run is closed then; else `Nothing` exactly where there is no such entry.
     /// At `Starved` memory was wanted, now or before, and board and control stay as they were, but that the board notes it.
+    #[inline(always)]
     pub fn turn<I: Image + Drop>(&mut self, alloc: Global, board: &mut Board<I>) -> Did
+        requires fits { ControlFits board.old.state self.old }
+        ensures turn { TakesTurn board.old board.new board.new.state.closed (turn_of board.old.state self.old.failed) result }
+        ensures images { board.new.images ≡ board.old.images }
+        ensures starved { result ≡ Did.Starved → self.new ≡ self.old }
+        ensures fits { ControlFits board.new.state self.new }
+        ensures whole { result ≢ Did.Starved → self.new.wrote ++ self.new.held ≡ board.new.state.console }
+        ensures wrote { self.new.wrote ≡ self.old.wrote }
+        ensures failed { self.new.failed ≡ self.old.failed }
+    {
+        if self.has_nothing(board) {
+            return Did::Nothing;
+        }
+        self.turn_fully(alloc, board)
+    }
+
+    /// The same whatever there is to do.
+    #[inline(never)]
+    fn turn_fully<I: Image + Drop>(&mut self, alloc: Global, board: &mut Board<I>) -> Did
         requires fits { ControlFits board.old.state self.old }
         ensures turn { TakesTurn board.old board.new board.new.state.closed (turn_of board.old.state self.old.failed) result }
         ensures images { board.new.images ≡ board.old.images }

@@ -1,6 +1,6 @@
 -- An access is made where it goes to memory, and no division follows that can't be done; else it isn't done.
 use Rattle.std.specs.Prelude.{◌%◌, ◌==◌, ◌&&◌, if◌then◌else◌}
-use Rattle.std.proofs.Common.{◌≡◌, ◌≢◌, ℕ, Bool, true, false, Result, Ok, Err, Some, None, refl, sym, ap, ◌∙◌}
+use Rattle.std.proofs.Common.{◌≡◌, ◌≢◌, ℕ, Bool, true, false, Result, Ok, Err, Some, refl, sym, ap, ◌∙◌}
 use Rattle.byteorder.specs.Endian.{little_bytes, little_number}
 use Rattle.vm_law.specs.Memory.{Memory, read_of, written}
 use Rattle.vm_law.specs.declared.context.Ctx.{Ctx}
@@ -17,7 +17,6 @@ use Rattle.x86_exec.specs.declared.effect.Effect.{Effect}
 use Rattle.x86_exec.specs.declared.effect.Effect.TheVariants as effect
 use Rattle.x86_exec.specs.declared.reached.Place.{Place}
 use Rattle.x86_exec.specs.declared.reached.Place.TheVariants as place
-use Rattle.x86_exec.specs.Steps.{◌>>=◌, ◌>>◌}
 use Rattle.x86_exec.specs.Reached.{reached, windowed, is_memory}
 use Rattle.x86_exec.specs.Shared.{asks, is_plain, loaded, number_at, divides, stored_at, ended, stores, accessed}
 use Rattle.x86_exec.specs.Kept.{is_done}

@@ -1,7 +1,7 @@
 -- What one instruction does to its vCPU and to memory, and what it asks of the machine around it. c is the context before
 -- the instruction, len its number of bytes.
 -- Source: Intel SDM volume 2, the pages of the instructions, and volume 3, section 6.15.
-use Rattle.std.specs.Prelude.{ℕ, ◌+◌, ◌*◌, ◌%◌, ◌^◌, Bool, true, false, List, drop, Option, Some, None, Result, Ok, Err, if◌then◌else◌}
+use Rattle.std.specs.Prelude.{ℕ, ◌%◌, ◌^◌, Bool, true, false, List, drop, Option, Some, None, Result, Ok, Err, if◌then◌else◌}
 use Rattle.byteorder.specs.Endian.{little_number, little_bytes}
 use Rattle.vm_law.specs.Memory.{Memory, read_of, written}
 use Rattle.vm_law.specs.declared.context.Ctx.{Ctx}
@@ -12,7 +12,6 @@ use Rattle.vm_law.specs.declared.insn.Mem.{Mem}
 use Rattle.vm_law.specs.declared.insn.Op.{Op}
 use Rattle.vm_law.specs.declared.insn.Op.TheVariants as op
 use Rattle.vm_law.specs.declared.insn.Insn.{Insn}
-use Rattle.vm_bus.specs.declared.area.Area.{Area}
 use Rattle.vm_bus.specs.Area.{area_in}
 use Rattle.x86_alu.specs.Operand.{span}
 use Rattle.x86_op.specs.declared.access.Way.{Way}

@@ -1,11 +1,12 @@
 //! Instructions with an operand in memory, or on the stack, and those on registers and flags alone.
-ghost use Rattle.std.specs.Prelude.{◌≡◌, ◌≤◌, ◌+◌, OnErr, IfOk, IsTrue, Ok, None, length};
+ghost use Rattle.std.specs.Prelude.{◌≡◌, ◌≤◌, ◌+◌, OnErr, IfOk, IsTrue, Ok, None, Some, length};
 ghost use Rattle.vm_law.specs.declared.context.Ctx.{Ctx};
 ghost use Rattle.x86_op.specs.Access.{IsLength, access_of};
 ghost use Rattle.vm_bus.specs.Area.{area_in};
 ghost use Rattle.x86_op.specs.Table.{NeverFaults};
 ghost use Rattle.x86_op.specs.declared.access.Way.TheVariants as way;
 ghost use Rattle.x86_exec.specs.Kept.{IsDoneAs, outcome, Stores};
+ghost use Rattle.x86_exec.specs.declared.effect.Effect.TheVariants as effect;
 ghost use Rattle.x86_exec.specs.declared.reached.Place.TheVariants as place;
 ghost use Rattle.x86_exec.specs.Reached.{IsThere, is_memory};
 ghost use Rattle.x86_exec.specs.Shared as spec;
@@ -154,7 +155,7 @@ fn read_from<B: Bytes>(bytes: &B, access: &Access) -> u64
 }
 
 /// Makes an access to memory; one that a division follows which can't be done isn't made.
-#[inline(always)]
+#[inline(never)]
 fn access_done<B: Bytes>(
     ctx: &mut Ctx,
     insn: &Insn,
@@ -243,53 +244,35 @@ fn any_access_done<B: Bytes>(
     }
 }
 
-/// Loads what an instruction reads, which no division follows, and runs it.
-#[inline(always)]
-fn load_done<B: Bytes>(
-    ctx: &mut Ctx,
-    insn: &Insn,
-    len: u8,
-    bytes: &B,
-    access: &Access,
-) -> Option<Stored>
-    requires length { IsLength access.now.len }
-    requires way { access.now.way ≡ way.Load }
-    requires memory { IsTrue (is_memory (area_in (B.memory bytes.now) access.now.at access.now.len)) }
-    requires inside { access.now.at + access.now.len ≤ length (B.memory bytes.now).bytes }
+/// Loads `size` bytes from an address, which no division follows, and runs the instruction that asks for them.
+#[inline(never)]
+fn load_done<B: Bytes>(ctx: &mut Ctx, insn: &Insn, len: u8, bytes: &B, at: u64, size: u8)
+    requires length { IsLength size }
+    requires memory { IsTrue (is_memory (area_in (B.memory bytes.now) at size)) }
+    requires inside { at + size ≤ length (B.memory bytes.now).bytes }
     requires divides { NeverFaults insn.now }
-    ensures done { IsDoneAs (Ok result) (spec.accessed ctx.old insn.now len (B.memory bytes.now) access.now) ctx.new (B.memory bytes.now) }
-    ensures stores { result ≡ None }
+    ensures { spec.accessed ctx.old insn.now len (B.memory bytes.now) (record { way = way.Load; at = at; len = size })
+        ≡ Ok (spec.asks effect.Done ctx.new (B.memory bytes.now)) }
 {
-    let read = load(bytes, access.at, access.len);
+    let read = load(bytes, at, size);
     compute(ctx, insn, len, read);
-    None
 }
 
-/// Runs an instruction that only stores, and behind which no division can fail, and stores what it computed.
-#[inline(always)]
-fn store_done<B: Bytes>(
-    ctx: &mut Ctx,
-    insn: &Insn,
-    len: u8,
-    bytes: &mut B,
-    access: &Access,
-) -> Option<Stored>
-    requires length { IsLength access.now.len }
-    requires way { access.now.way ≡ way.Store }
-    requires memory { IsTrue (is_memory (area_in (B.memory bytes.old) access.now.at access.now.len)) }
-    requires inside { access.now.at + access.now.len ≤ length (B.memory bytes.old).bytes }
+/// Runs an instruction that stores `size` bytes at an address and loads none, and behind which no division can fail.
+#[inline(never)]
+fn store_done<B: Bytes>(ctx: &mut Ctx, insn: &Insn, len: u8, bytes: &mut B, at: u64, size: u8)
+    requires length { IsLength size }
+    requires memory { IsTrue (is_memory (area_in (B.memory bytes.old) at size)) }
+    requires inside { at + size ≤ length (B.memory bytes.old).bytes }
     requires divides { NeverFaults insn.now }
     requires room { 2 ≤ B.spare bytes.old }
-    ensures done { IsDoneAs (Ok result) (spec.accessed ctx.old insn.now len (B.memory bytes.old) access.now) ctx.new (B.memory bytes.new) }
-    ensures stores { Stores result (B.memory bytes.old) (B.memory bytes.new) }
+    ensures done { spec.accessed ctx.old insn.now len (B.memory bytes.old) (record { way = way.Store; at = at; len = size })
+        ≡ Ok (record { effect = effect.Done; ctx = ctx.new; memory = B.memory bytes.new; stored = Some (record { at = at; len = size }) }) }
+    ensures stores { Stores (Some (record { at = at; len = size })) (B.memory bytes.old) (B.memory bytes.new) }
     ensures room { B.spare bytes.old ≤ B.spare bytes.new + 2 }
 {
     let number = compute(ctx, insn, len, 0);
-    store(bytes, access.at, access.len, number);
-    Some(Stored {
-        at: access.at,
-        len: access.len,
-    })
+    store(bytes, at, size, number);
 }
 
 /// Makes an access to memory that no division follows.
@@ -314,8 +297,17 @@ fn plain_done<B: Bytes>(
         return Err(NotDone);
     }
     match access.way {
-        Way::Load => Ok(load_done(ctx, insn, len, bytes, access)),
-        Way::Store => Ok(store_done(ctx, insn, len, bytes, access)),
+        Way::Load => {
+            load_done(ctx, insn, len, bytes, access.at, access.len);
+            Ok(None)
+        }
+        Way::Store => {
+            store_done(ctx, insn, len, bytes, access.at, access.len);
+            Ok(Some(Stored {
+                at: access.at,
+                len: access.len,
+            }))
+        }
         Way::Modify | Way::Compare => access_done(ctx, insn, len, bytes, access),
     }
 }

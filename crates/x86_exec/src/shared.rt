@@ -7,7 +7,7 @@ ghost use Rattle.x86_exec.specs.Shared as spec;
 
 use crate::access::{with_access, with_access_done};
 use crate::effect::{Effect, NotDone, Performed, Stored};
-use crate::system::{iret, lidt, out, port_of};
+use crate::system::{iret, iret_done, lidt, lidt_done, out, port_of};
 use vm_law::{Bytes, Ctx, Insn, Loc, Op, Width};
 use x86_op::{compute, pass, set_value};
 
@@ -105,14 +105,8 @@ pub fn perform_done<B: Bytes>(
 {
     match &insn.op {
         Op::In(_) | Op::Out(_) | Op::Int(_) | Op::Ud2 | Op::Hlt => Err(NotDone),
-        Op::Iret => match iret(ctx, len, bytes) {
-            Ok(performed) => Ok(performed.stored),
-            Err(_) => Err(NotDone),
-        },
-        Op::Lidt(operand) => match lidt(ctx, len, bytes, operand) {
-            Ok(performed) => Ok(performed.stored),
-            Err(_) => Err(NotDone),
-        },
+        Op::Iret => iret_done(ctx, len, bytes),
+        Op::Lidt(operand) => lidt_done(ctx, len, bytes, operand),
         _ => with_access_done(ctx, insn, len, bytes),
     }
 }

@@ -2,11 +2,11 @@
 ghost use Rattle.std.specs.Prelude.{◌≡◌, OnErr, IfOk, drop};
 ghost use Rattle.byteorder.specs.Endian.{little_number};
 ghost use Rattle.vm_law.specs.Memory.{Memory};
-ghost use Rattle.x86_exec.specs.Kept.{outcome, Stores};
+ghost use Rattle.x86_exec.specs.Kept.{IsDoneAs, outcome, Stores};
 ghost use Rattle.x86_exec.specs.Shared as spec;
 ghost use Rattle.x86_exec.specs.declared.effect.Effect.TheVariants as effect;
 
-use crate::effect::{Effect, Performed};
+use crate::effect::{Effect, NotDone, Performed, Stored};
 use crate::reached::read_at;
 use byteorder::{ByteOrder, LittleEndian};
 use vm_law::{Bytes, Ctx, Loc, Mem, Width};
@@ -55,6 +55,23 @@ pub(crate) fn iret<B: Bytes>(ctx: &mut Ctx, len: u8, bytes: &B) -> Result<Perfor
     Ok(Performed::asking(Effect::Done))
 }
 
+/// IRETQ where it is done by itself.
+#[inline(never)]
+pub(crate) fn iret_done<B: Bytes>(
+    ctx: &mut Ctx,
+    len: u8,
+    bytes: &B,
+) -> Result<Option<Stored>, NotDone>
+    ensures done { IsDoneAs result (spec.iret ctx.old len (B.memory bytes.now)) ctx.new (B.memory bytes.now) }
+    ensures same { OnErr result (ctx.new ≡ ctx.old) }
+    ensures stores { IfOk result (λ stored. Stores stored (B.memory bytes.now) (B.memory bytes.now)) }
+{
+    match iret(ctx, len, bytes) {
+        Ok(performed) => Ok(performed.stored),
+        Err(_) => Err(NotDone),
+    }
+}
+
 #[tactic(auto, unfolding(crate::specs::Shared::with_idt))]
 fn set_idt(ctx: &mut Ctx, len: u8, operand: &[u8; 10])
     ensures { ctx.new ≡ spec.with_idt ctx.old len operand.now }
@@ -80,6 +97,24 @@ pub(crate) fn lidt<B: Bytes>(
     let operand = read_at::<B, 10>(bytes, address_behind(ctx, len, operand))?;
     set_idt(ctx, len, &operand);
     Ok(Performed::asking(Effect::Done))
+}
+
+/// LIDT where it is done by itself.
+#[inline(never)]
+pub(crate) fn lidt_done<B: Bytes>(
+    ctx: &mut Ctx,
+    len: u8,
+    bytes: &B,
+    operand: &Mem,
+) -> Result<Option<Stored>, NotDone>
+    ensures done { IsDoneAs result (spec.lidt ctx.old len (B.memory bytes.now) operand.now) ctx.new (B.memory bytes.now) }
+    ensures same { OnErr result (ctx.new ≡ ctx.old) }
+    ensures stores { IfOk result (λ stored. Stores stored (B.memory bytes.now) (B.memory bytes.now)) }
+{
+    match lidt(ctx, len, bytes, operand) {
+        Ok(performed) => Ok(performed.stored),
+        Err(_) => Err(NotDone),
+    }
 }
 
 /// The port that is named, or else DX.

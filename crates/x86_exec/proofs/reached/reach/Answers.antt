@@ -1,6 +1,6 @@
 -- What `area_at` says of the range in numbers is that it is inside memory, where it is in memory.
 use Rattle.std.proofs.Common.{IfOk, Result, length, sym, subst}
-use Rattle.vm_bus.specs.Area.{IsWithin, area_in}
+use Rattle.vm_bus.specs.Area.{IsWithin}
 use Rattle.vm_bus.proofs.Inside.{placed-within}
 use Rattle.x86_exec.specs.declared.effect.Effect.{Effect}
 use Rattle.x86_exec.specs.declared.reached.Place.{Place}
